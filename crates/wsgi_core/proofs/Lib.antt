@@ -1,4 +1,5 @@
 pub mod AnswerLaws
+pub mod Appending
 pub mod Cuts
 pub mod ProgressLaws
 pub mod ProgressSteps

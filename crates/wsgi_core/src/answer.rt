@@ -1,10 +1,11 @@
 //! Answers as bytes.
 #![tactic(auto, using(gv_values::proofs::Fronts::fronts))]
 
-ghost use Rattle.std.specs.Prelude.{◌≡◌, ◌<◌, ◌-◌, ◌++◌, IsTrue, OnOk, OnErr, IfOk, length as list_length, take};
+ghost use Rattle.std.specs.Prelude.{◌≡◌, ◌<◌, ◌-◌, ◌++◌, IsTrue, OnOk, OnErr, IfOk, codes, decimal, false, length as list_length, take};
+ghost use Rattle.std.specs.Fmt.{digits};
 ghost use Rattle.std.specs.List.{concat, flat_map, list_all};
 ghost use Rattle.gv_values.specs.Fronts.{BeginsWith};
-ghost use Rattle.wsgi_core.specs.Answer.{answer, begins_with_code, body_bytes, chunk, coding_line, connection_line, ending, ending_by, falls_short, has_code, has_body_place, has_visible_ends, head_bytes, header_line, is_empty, is_faulty, is_header, is_hop_by_hop, is_reason, is_reason_byte, is_status, is_visible, is_wrong, length_of, says_close, sent_by, server_error, stated, status_line};
+ghost use Rattle.wsgi_core.specs.Answer.{answer, begins_with_code, body_bytes, chunk, coding_line, connection_line, ending, ending_by, falls_short, has_code, has_body_place, has_visible_ends, head_bytes, header_line, is_empty, is_faulty, is_header, is_hop_by_hop, is_reason, is_reason_byte, is_status, is_visible, is_wrong, length_of, line, says_close, sent_by, server_error, stated, status_line};
 ghost use Rattle.wsgi_core.specs.Stating.{stated_after};
 
 use crate::reply::{Pieces, Reply, Response};
@@ -287,6 +288,15 @@ fn push_coding(out: &mut ByteQueue, ending: Ending) -> Result<(), AllocError>
     Ok(())
 }
 
+/// Appends the version, with a space behind it.
+fn push_version(alloc: Global, out: &mut ByteQueue, minor: u8) -> Result<(), AllocError>
+    ensures sent { OnOk result (out.new ≡ out.old ++ (codes "HTTP/1." ++ decimal minor ++ codes " ")) }
+    ensures err { OnErr result (BeginsWith out.new out.old) }
+{
+    let version = format!(in alloc; "HTTP/1.{minor} ")?;
+    out.append(version.as_bytes())
+}
+
 /// Appends the line of the version and the status.
 fn push_status(
     alloc: Global,
@@ -297,8 +307,7 @@ fn push_status(
     ensures sent { OnOk result (out.new ≡ out.old ++ status_line minor status.now) }
     ensures err { OnErr result (BeginsWith out.new out.old) }
 {
-    let version = format!(in alloc; "HTTP/1.{minor} ")?;
-    out.append(version.as_bytes())?;
+    push_version(alloc, out, minor)?;
     out.append(status)?;
     out.append(b"\r\n")
 }
@@ -321,6 +330,24 @@ fn push_head(
     out.append(b"\r\n")
 }
 
+/// Appends a line.
+fn push_line(out: &mut ByteQueue, text: &[u8]) -> Result<(), AllocError>
+    ensures sent { OnOk result (out.new ≡ out.old ++ line text.now) }
+    ensures err { OnErr result (BeginsWith out.new out.old) }
+{
+    out.append(text)?;
+    out.append(b"\r\n")
+}
+
+/// Appends the line of a chunk's size.
+fn push_size(alloc: Global, out: &mut ByteQueue, size: usize) -> Result<(), AllocError>
+    ensures sent { OnOk result (out.new ≡ out.old ++ line (digits 16 false size)) }
+    ensures err { OnErr result (BeginsWith out.new out.old) }
+{
+    let digits = format!(in alloc; "{size:x}")?;
+    push_line(out, digits.as_bytes())
+}
+
 /// Appends a piece of a chunked body.
 fn push_chunk(alloc: Global, out: &mut ByteQueue, piece: &[u8]) -> Result<(), AllocError>
     ensures sent { OnOk result (out.new ≡ out.old ++ chunk piece.now) }
@@ -329,11 +356,8 @@ fn push_chunk(alloc: Global, out: &mut ByteQueue, piece: &[u8]) -> Result<(), Al
     if piece.is_empty() {
         return Ok(());
     }
-    let size = format!(in alloc; "{:x}", piece.len())?;
-    out.append(size.as_bytes())?;
-    out.append(b"\r\n")?;
-    out.append(piece)?;
-    out.append(b"\r\n")
+    push_size(alloc, out, piece.len())?;
+    push_line(out, piece)
 }
 
 /// Appends the pieces of a chunked body, and the last chunk unless the application raised.
