@@ -121,6 +121,7 @@ fn flat_greenlet_command(
             let (a, b) = got!(expression_expression(alloc, naming, a, b));
             Ok(FlatCommand::SetParent(a, b))
         }
+        // `flat_command` hands on only what does something to greenlets.
         _ => unreachable!(),
     }
 }
@@ -148,6 +149,7 @@ fn flat_object_command(
             let (a, b) = got!(name_optional(alloc, naming, a, b));
             Ok(FlatCommand::GroupKill(a, b, *c))
         }
+        // `flat_command` hands on only what does something to an object.
         _ => unreachable!(),
     }
 }

@@ -145,6 +145,7 @@ fn flat_making(
             let (a, b) = got!(name_optional(alloc, naming, a, b));
             Ok(FlatGiving::Raw(a, b))
         }
+        // `flat_giving` hands on only what makes greenlets or a job.
         _ => unreachable!(),
     }
 }
@@ -170,6 +171,7 @@ fn flat_object_giving(
         Giving::QueuePeek(a, b) => Ok(FlatGiving::QueuePeek(got!(naming.number(alloc, a)), *b)),
         Giving::QueueJoin(a, b) => Ok(FlatGiving::QueueJoin(got!(naming.number(alloc, a)), *b)),
         Giving::ChannelGet(a) => Ok(FlatGiving::ChannelGet(got!(naming.number(alloc, a)))),
+        // `flat_giving` hands on only what asks an object.
         _ => unreachable!(),
     }
 }
