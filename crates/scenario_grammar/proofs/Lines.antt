@@ -1,5 +1,5 @@
 -- Each line, by its first word: what is read was written so, and what was written is read.
-use Rattle.std.proofs.Common.{◌≡◌, ℕ, Bool, true, false, List, [], ◌∷◌, ◌++◌, Option, Some, None, Ok, Err, refl, sym, ap, subst, ◌∙◌, append_assoc, append-nil}
+use Rattle.std.proofs.Common.{◌≡◌, ℕ, Bool, true, false, List, [], ◌∷◌, ◌++◌, Option, Some, None, Ok, Err, is_ok, refl, sym, ap, subst, ◌∙◌, append_assoc, append-nil}
 use Rattle.gv_values.specs.declared.name.Name.{Name}
 use Rattle.gv_values.specs.declared.fault.Class.{Class}
 use Rattle.scenario_tree.specs.declared.tree.Expression.{Expression}
@@ -20,7 +20,7 @@ use Rattle.scenario_grammar.specs.declared.phrase.Phrase.TheVariants as phrase
 use Rattle.scenario_grammar.specs.Token.{Written, ◌⊕◌, ◌▹◌, each, fixed, name, number, perhaps}
 use Rattle.scenario_grammar.specs.Expressions.{expression}
 use Rattle.scenario_grammar.specs.Phrase.{phrase_tokens, giving_tokens, timeout_tokens, ms, timed_tokens, wait_tokens, marked, with_fault, flag, count_tokens, takes_tokens, size_tokens, job_keyword, queue_keyword, class_keyword}
-use Rattle.scenario_grammar.specs.Reading.{◌<$>◌, pure, name_at, number_at, expression_at, nested_at, all_at, raw_link_at, gives, giving_by, phrase_by}
+use Rattle.scenario_grammar.specs.Reading.{Reading, ◌<$>◌, pure, name_at, number_at, expression_at, nested_at, all_at, raw_link_at, gives, giving_by, phrase_by}
 use Rattle.scenario_grammar.specs.Place.{role_by, States}
 use Rattle.scenario_grammar.proofs.Parts.{AreProper, Anything, both, bind_ok, map_sound, map_full, pure_sound}
 use Rattle.scenario_grammar.proofs.Words.{Faithful, made, joined, next, ending, Ends, inner, names, numbers, times, expressions, timed_parts, takes_parts, under_parts, with_parts, with_at_the_end, count_parts, wait_parts, before_wait, before_time, before_now, now_parts, silent_parts, immediate_parts, one_number, after_tokens, after_parts, size_parts, jobs, queues, classes, binding_parts, all_parts}
@@ -334,6 +334,10 @@ pub record GivingSaid (word : Keyword) (ts : List Token) (made : Giving) (rest :
   pub written : giving_tokens made ≡ Some (token.Fixed word ∷ front)
   pub whole : ts ≡ front ++ rest
 
+-- of use where there is a case for each word: `cc` in each would be dear
+not_read : (r : Reading Giving) (x : Giving × List Token) → is_ok r ≡ false → r ≡ Ok x → ⊥
+not_read r x refused e = cc (refused, ap is_ok e)
+
 raw_link_said : (x : Expression) (a ts rest : List Token) (made : Giving) → expression x ≡ Some a → AreProper ts → raw_link_at x ts ≡ Ok (made, rest) → GivingSaid k.RawLink (a ++ ts) made rest
 raw_link_said x a (token.Fixed k.Mark ∷ ts) rest made w h e =
     let b = map_sound (λ a. giving.LinkMark x a) (λ a. a) (number 0 MOST_MARK) (number_at 0 MOST_MARK) (numbers 0 MOST_MARK).sound ts rest made h e in
@@ -349,7 +353,7 @@ raw_link_said x a (token.Fixed k.Set ∷ ts) rest made w h e =
       written = ap giving_tokens (sym b.made_of) ∙ (rw (w, b.written) refl);
       whole = ap (λ z. a ++ (token.Fixed k.Set ∷ z)) b.whole ∙ sym (append_assoc a (token.Fixed k.Set ∷ []) (b.front ++ rest)) ∙ sym (append_assoc (a ++ token.Fixed k.Set ∷ []) b.front rest);
     }
-raw_link_said x a ts rest made w h e = cc
+raw_link_said x a ts rest made w h e = absurd (not_read (raw_link_at x ts) (made, rest) refl e)
 
 said_by : {E : Type 0} {word : Keyword} {make : E → Giving} {writes : E → Written Token} → Gives word make writes
     → (ts rest : List Token) (made : Giving) → AreProper ts → giving_by word ts ≡ Ok (made, rest) → GivingSaid word ts made rest
@@ -386,7 +390,7 @@ giving_said k.Raw ts rest made h e = said_by raw_gives ts rest made h e
 giving_said k.Switch ts rest made h e = said_by switch_gives ts rest made h e
 giving_said k.Throw ts rest made h e = said_by throw_gives ts rest made h e
 giving_said k.ChannelGet ts rest made h e = said_by channel_get_gives ts rest made h e
-giving_said _ ts rest made h e = cc
+giving_said word ts rest made h e = absurd (not_read (giving_by word ts) (made, rest) refl e)
 
 -- a statement that gives a value, read whole behind its word
 pub record GivingRead (g : Giving) (ts : List Token) : Type 0 where
