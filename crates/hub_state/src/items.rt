@@ -87,7 +87,10 @@ impl Hub {
         items_stand_in_order(&self.held);
         // One that doesn't hold changes nothing for the others that wait for the same: they need no look.
         let holds = self.would_hold(&delivery);
-        self.touched.reserve_awaited(&delivery)?;
+        let Ok(()) = self.touched.reserve_awaited(&delivery) else {
+            drop(delivery);
+            return Err(AllocError);
+        };
         self.touched.touch_awaited(&delivery, holds);
         let slot = add_with_place(&mut self.held, &mut self.touched, &mut self.found, delivery)?;
         self.touched.touch_made(slot);

@@ -105,23 +105,24 @@ impl Base {
             Waiting::Event(o, sets) => has_set_since(self.object(*o), *sets),
             Waiting::ResultGet(o) => has_result(self.object(*o)),
             Waiting::ResultWait(o) => has_result(self.object(*o)),
-            Waiting::Acquire(o) => has_unit(self.object(*o), before),
-            Waiting::Lock(o) => is_free(self.object(*o), before),
-            Waiting::Put(o, _) => has_room(self.object(*o), before),
-            Waiting::Take(o) => has_item(self.object(*o), before),
-            Waiting::Peek(o) => has_item(self.object(*o), before),
+            Waiting::Acquire(o) => self.holds_in_line(WaitKind::Acquire, *o, before),
+            Waiting::Lock(o) => self.holds_in_line(WaitKind::Lock, *o, before),
+            Waiting::Put(o, _) => self.holds_in_line(WaitKind::Put, *o, before),
+            Waiting::Take(o) => self.holds_in_line(WaitKind::Take, *o, before),
+            Waiting::Peek(o) => self.holds_in_line(WaitKind::Take, *o, before),
             Waiting::Tasks(o) => all_finished(self.object(*o)),
-            Waiting::Place(o, _, _) => has_place(self.object(*o), before),
-            Waiting::MapPlace(o, _, _, _) => has_place(self.object(*o), before),
+            Waiting::Place(o, _, _) => self.holds_in_line(WaitKind::Place, *o, before),
+            Waiting::MapPlace(o, _, _, _) => self.holds_in_line(WaitKind::Place, *o, before),
             Waiting::MapEnd(_, made) => self.all_done(made.as_slice()),
             Waiting::Members(o) => is_deserted(self.object(*o)),
-            Waiting::Slot(o, _, _) => has_slot(self.object(*o), before),
+            Waiting::Slot(o, _, _) => self.holds_in_line(WaitKind::Slot, *o, before),
             Waiting::Offered(o) => is_taken(self.object(*o), since),
-            Waiting::TakeOffer(o) => has_offer(self.object(*o), before),
+            Waiting::TakeOffer(o) => self.holds_in_line(WaitKind::TakeOffer, *o, before),
         }
     }
 
     /// Whether who waits so at this object holds, with so many before it in its line.
+    #[inline(always)]
     pub(crate) fn holds_in_line(&self, kind: WaitKind, o: u32, before: u64) -> bool
         ensures { result ≡ holds_in_line kind before (slice_get self.now.objects o) }
     {

@@ -65,6 +65,7 @@ impl Hub {
     {
         let mut stage = stage;
         self.swap_stage(g, &mut stage);
+        drop(stage);
     }
 
     /// Takes the body of the greenlet, which is then under way. None only where no body of it waits for
@@ -80,7 +81,10 @@ impl Hub {
         let before = stage;
         match before {
             Stage::Parked(body) => Some(body),
-            _ => None,
+            other => {
+                drop(other);
+                None
+            }
         }
     }
 
@@ -95,7 +99,10 @@ impl Hub {
         let before = stage;
         match before {
             Stage::New(arguments) => arguments,
-            _ => Items::new(alloc),
+            other => {
+                drop(other);
+                Items::new(alloc)
+            }
         }
     }
 

@@ -202,11 +202,6 @@ fn object_of_wait(waiting: &Waiting) -> Option<u32>
     ensures { result ≡ awaited (class_of_wait waiting.now) }
 {
     match waiting {
-        Waiting::Sleep(_) => None,
-        Waiting::Join(_) => None,
-        Waiting::Get(_) => None,
-        Waiting::Kill(_) => None,
-        Waiting::JoinAll(_, _) => None,
         Waiting::Event(o, _) => Some(*o),
         Waiting::ResultGet(o) => Some(*o),
         Waiting::ResultWait(o) => Some(*o),
@@ -218,11 +213,11 @@ fn object_of_wait(waiting: &Waiting) -> Option<u32>
         Waiting::Tasks(o) => Some(*o),
         Waiting::Place(o, _, _) => Some(*o),
         Waiting::MapPlace(o, _, _, _) => Some(*o),
-        Waiting::MapEnd(_, _) => None,
         Waiting::Members(o) => Some(*o),
         Waiting::Slot(o, _, _) => Some(*o),
         Waiting::Offered(o) => Some(*o),
         Waiting::TakeOffer(o) => Some(*o),
+        _ => None,
     }
 }
 
