@@ -36,7 +36,7 @@ use std::alloc::{AllocError, Global};
 use trace_text::{Line, LinkCall, Resumed, StopCause};
 
 /// Throws the fault into the statement of the greenlet; what that offers on a channel is withdrawn.
-#[tactic(auto, using(crate::proofs::Functions::declared_said, crate::proofs::Functions::declared_dropped, crate::proofs::Functions::declared_settled, crate::proofs::Functions::declared_withdrawn), unfolding(machine::specs::Deliveries::interrupts))]
+#[tactic(auto, unfolding(machine::specs::Deliveries::interrupts))]
 pub fn throw_into(
     alloc: Global,
     hub: &mut Hub,
@@ -58,7 +58,7 @@ pub fn throw_into(
 }
 
 /// Starts the greenlet with the arguments that it was made with.
-#[tactic(auto, using(crate::proofs::Blind::starts_blind, crate::proofs::Functions::declared_phased))]
+#[tactic(auto, using(crate::proofs::Blind::starts_blind))]
 fn start_greenlet(alloc: Global, hub: &mut Hub, g: u32) -> Result<Stand, AllocError>
     requires declared { AreDeclared hub.old }
     requires settles { MaySettle (most_hops + 2) hub.old }
@@ -70,7 +70,6 @@ fn start_greenlet(alloc: Global, hub: &mut Hub, g: u32) -> Result<Stand, AllocEr
 
 /// Completes the wait of the greenlet, which was begun with this since.
 #[inline(always)]
-#[tactic(auto, using(crate::proofs::Soundly::sound_woken, crate::proofs::Functions::declared_followed))]
 fn wake_greenlet(
     alloc: Global,
     hub: &mut Hub,
@@ -105,7 +104,7 @@ fn late_answer(alloc: Global, hub: &Hub, g: u32, n: u32) -> Result<Option<Outcom
 }
 
 /// Ends the wait of the greenlet at its deadline; `n` is the number of its Timeout.
-#[tactic(auto, using(crate::proofs::Delivered::late_none, crate::proofs::Delivered::late_some, crate::proofs::Functions::declared_said, crate::proofs::Functions::declared_dropped, crate::proofs::Functions::declared_settled))]
+#[tactic(auto, using(crate::proofs::Delivered::late_none, crate::proofs::Delivered::late_some))]
 fn end_late(alloc: Global, hub: &mut Hub, g: u32, n: u32) -> Result<Stand, AllocError>
     requires declared { AreDeclared hub.old }
     requires settles { MaySettle (most_hops + 2) hub.old }

@@ -68,7 +68,6 @@ pub fn settle_hub(hub: &mut Hub)
 
 /// Goes on after a request of the greenlet.
 #[inline(always)]
-#[tactic(auto, using(crate::proofs::Functions::declared_settled))]
 pub fn go_on_after(
     alloc: Global,
     hub: &mut Hub,
@@ -151,7 +150,6 @@ pub fn answer_running(
 /// Performs what the body asks, where that has nothing to do with greenlets: mostly it is answered at once, and the
 /// body stands beside the hub until it has to wait. What is left of that is put into `left`.
 #[inline(always)]
-#[tactic(auto, using(crate::proofs::Soundly::sound_parked))]
 fn serve_beside(
     alloc: Global,
     hub: &mut Hub,

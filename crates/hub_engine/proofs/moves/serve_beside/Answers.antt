@@ -9,6 +9,7 @@ use Rattle.hub_requests.specs.declared.performed.Performed.{Performed}
 use Rattle.hub_engine.specs.Settlings.{most_hops}
 use Rattle.hub_engine.proofs.Beside.{declared_beside, declared_waiting, performed_beside, still_under_way}
 use Rattle.hub_engine.proofs.Settlings.{performed_settles, settles_phased}
+use Rattle.hub_engine.proofs.Soundly.{sound_parked}
 use Rattle.hub_engine.proofs.moves.serve_beside.Goals as goal
 
 pub perform-requires-clause-room : goal.perform-requires-clause-room
@@ -54,3 +55,6 @@ returns-in_default c =
         settles = settles_phased (most_hops + 2) c.args.g (Phase.Live b) c.perform.new.hub (with_phase c.args.g (Phase.Live b) c.perform.new.hub) refl after;
       };
     }
+
+pub perform-requires-clause-may_make : goal.perform-requires-clause-may_make
+perform-requires-clause-may_make c = sound_parked c.args.g no_frame c.args.hub.now c.go_under_way.new.hub c.requires.may_move c.go_under_way.ensures
