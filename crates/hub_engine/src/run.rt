@@ -132,9 +132,9 @@ impl Engine {
         ensures few { OnOk result (AreFewBudgets budgets.turns budgets.moves) }
         ensures refused { IfErr result (IsRefusedFor budgets.turns budgets.moves) }
     {
-        may_be_given(budgets)?;
         may_run(&checked);
-        let hub = Hub::new(alloc, compile(alloc, checked)?)?;
+        let code = compile_within(alloc, checked, budgets)?;
+        let hub = Hub::new(alloc, code)?;
         Ok(Engine { hub, budgets })
     }
 
@@ -184,6 +184,21 @@ pub fn compile(alloc: Global, checked: Checked) -> Result<Code, AllocError>
 {
     calls_have_few();
     Ok(Code::new(alloc, checked.into_tree())?)
+}
+
+/// The code of a scenario that may be run within these budgets. They are looked at where the code is made: what goes
+/// where they are too many is code then, and no tree, whose drop would be proved in this crate.
+fn compile_within(alloc: Global, checked: Checked, budgets: Budgets) -> Result<Code, EngineRefusal>
+    ensures code { IfOk result (λ code. code ≡ checked) }
+    ensures few { OnOk result (AreFewBudgets budgets.turns budgets.moves) }
+    ensures refused { IfErr result (IsRefusedFor budgets.turns budgets.moves) }
+{
+    let made = compile(alloc, checked);
+    may_be_given(budgets)?;
+    match made {
+        Ok(code) => Ok(code),
+        Err(_) => Err(EngineRefusal::Memory),
+    }
 }
 
 /// A scenario that is checked may be run: its main has a number, its objects are few, and what they count fits, by far.
