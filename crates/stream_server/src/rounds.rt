@@ -221,7 +221,7 @@ fn accept_clients<T: Drop, W, V: Service<T, W>, N: Net, H: Wait>(
     Ok(count)
 }
 
-/// Asks whether a reply has come, and goes on with the connection that was held for it.
+/// Asks whether a reply has come, where one is waited for, and goes on with the connection that was held for it.
 fn poll_service<T: Drop, W, V: Service<T, W>, N: Net, H: Wait>(
     serving: &Serving<H>,
     net: &mut N,
@@ -230,6 +230,7 @@ fn poll_service<T: Drop, W, V: Service<T, W>, N: Net, H: Wait>(
     table: &mut ClientTable<T>,
 ) -> Result<(), RoundFault>
     requires running { IsRunning V.protocol (V.fits service.old world.old) (V.tied service.old world.old) serving.now.terms (N.meaning net.old) table.old }
+    requires sound { V.sound service.old world.old }
     ensures running { OnOk result (IsRunning V.protocol (V.fits service.new world.new) (V.tied service.new world.new) serving.now.terms (N.meaning net.new) table.new) }
     ensures left { OnErr result (LeftBy V.protocol (V.fits service.new world.new) serving.now.terms (N.meaning net.new)) }
     ensures service { StaysSound V.sound V.fits V.workers service.old world.old service.new world.new }
@@ -237,6 +238,9 @@ fn poll_service<T: Drop, W, V: Service<T, W>, N: Net, H: Wait>(
     ensures keeps { Keeps (N.meaning net.old) (N.meaning net.new) }
     ensures no_listener { result ≢ Err RoundFault.Listener }
 {
+    if service.is_idle() {
+        return Ok(());
+    }
     let deadline = net.now().saturating_add(serving.terms.limits.idle);
     match service.poll(world, table, deadline) {
         Polled::Nobody => Ok(()),
@@ -381,9 +385,7 @@ fn turn<T: Drop, W, V: Service<T, W>, N: Net, H: Wait>(
     ensures finished { result ≡ Ok Round.Finished → IsAllServed (N.meaning net.new) serving.now.terms.limits.conns }
 {
     let limits = serving.terms.limits;
-    if !service.is_idle() {
-        poll_service::<T, W, V, N, H>(serving, net, service, world, table)?;
-    }
+    poll_service::<T, W, V, N, H>(serving, net, service, world, table)?;
     let accepted = accept_clients::<T, W, V, N, H>(serving, net, service, world, table, accepted)?;
     if accepted == limits.conns {
         if table.is_empty() {

@@ -1,7 +1,8 @@
-use Rattle.std.proofs.Common.{◌≡◌, refl, sym, ap, ◌∙◌, subst, ℕ, length, Result, Err}
+use Rattle.std.proofs.Common.{◌≡◌, ◌≤◌, refl, sym, ap, ◌∙◌, subst, ℕ, length, Result, Ok, Err}
 use Rattle.gv_values.specs.Counts.{HasRisen}
 use Rattle.stream_server.specs.declared.rounds.RoundFault.{RoundFault}
 use Rattle.stream_server.specs.declared.rounds.Round.{Round}
+use Rattle.stream_server.specs.declared.rounds.ServiceEnd.{ServiceEnd}
 use Rattle.stream_server.proofs.Rounding.{running_first}
 use Rattle.stream_server.proofs.rounds.serve_on.Goals as goal
 
@@ -19,25 +20,131 @@ loop-init g c = record {
 is_fault : (f one : RoundFault) → f ≡ one → ◌≡◌ {A = Result Round RoundFault} (Err f) (Err one)
 is_fault f one e = ap (λ (x : RoundFault). Err x) e
 
+is_round : (r one : Round) → r ≡ one → ◌≡◌ {A = Result Round RoundFault} (Ok r) (Ok one)
+is_round r one e = ap (λ (x : Round). Ok x) e
+
+no_fault : (r : Round) → ◌≡◌ {A = Result Round RoundFault} (Ok r) (Err RoundFault.Listener) → ⊥
+no_fault r h = absurd (cc)
+
 spent_fault : (f : RoundFault) → f ≡ RoundFault.Spent → ◌≡◌ {A = Result Round RoundFault} (Err f) (Err RoundFault.Listener) → ⊥
 spent_fault f e h = absurd (cc)
 
 memory_fault : (f : RoundFault) → f ≡ RoundFault.Memory → ◌≡◌ {A = Result Round RoundFault} (Err f) (Err RoundFault.Listener) → ⊥
 memory_fault f e h = absurd (cc)
 
-pub returns-in-Err-Listener-clause-resting : goal.returns-in-Err-Listener-clause-resting
-returns-in-Err-Listener-clause-resting g c = λ _. c.in-Err-Listener.ensures.fares.resting (is_fault c.in-Err-Listener.field-0 RoundFault.Listener c.in-Err-Listener.field-0-is)
+finished_is_not_listener : ServiceEnd.Finished ≡ ServiceEnd.Listener → ⊥
+finished_is_not_listener e = cc
 
-pub returns-in-Err-Listener-clause-listener : goal.returns-in-Err-Listener-clause-listener
-returns-in-Err-Listener-clause-listener g c = λ _.
-    let P : ℕ → Type 0 = λ n. HasRisen n (g.N.Net.meaning c.turn.new.net).faults in
-    subst P c.loop.invariant.faults (c.in-Err-Listener.ensures.fares.listener (is_fault c.in-Err-Listener.field-0 RoundFault.Listener c.in-Err-Listener.field-0-is))
+finished_is_not_spent : ServiceEnd.Finished ≡ ServiceEnd.Spent → ⊥
+finished_is_not_spent e = cc
 
-pub returns-in-Err-Spent-clause-unfailed : goal.returns-in-Err-Spent-clause-unfailed
-returns-in-Err-Spent-clause-unfailed g c = λ _. c.in-Err-Spent.ensures.fares.unfailed (spent_fault c.in-Err-Spent.field-0 c.in-Err-Spent.field-0-is) ∙ c.loop.invariant.faults
+listener_is_not_finished : ServiceEnd.Listener ≡ ServiceEnd.Finished → ⊥
+listener_is_not_finished e = cc
 
-pub returns-in-Err-Spent-clause-in_vain : goal.returns-in-Err-Spent-clause-in_vain
-returns-in-Err-Spent-clause-in_vain g c = λ _. c.in-Err-Spent.ensures.in_vain (is_fault c.in-Err-Spent.field-0 RoundFault.Spent c.in-Err-Spent.field-0-is)
+listener_is_not_spent : ServiceEnd.Listener ≡ ServiceEnd.Spent → ⊥
+listener_is_not_spent e = cc
 
-pub returns-in-Err-Memory-clause-unfailed : goal.returns-in-Err-Memory-clause-unfailed
-returns-in-Err-Memory-clause-unfailed g c = λ _. c.in-Err-Memory.ensures.fares.unfailed (memory_fault c.in-Err-Memory.field-0 c.in-Err-Memory.field-0-is) ∙ c.loop.invariant.faults
+spent_is_not_finished : ServiceEnd.Spent ≡ ServiceEnd.Finished → ⊥
+spent_is_not_finished e = cc
+
+spent_is_not_listener : ServiceEnd.Spent ≡ ServiceEnd.Listener → ⊥
+spent_is_not_listener e = cc
+
+memory_is_not_finished : ServiceEnd.Memory ≡ ServiceEnd.Finished → ⊥
+memory_is_not_finished e = cc
+
+memory_is_not_listener : ServiceEnd.Memory ≡ ServiceEnd.Listener → ⊥
+memory_is_not_listener e = cc
+
+memory_is_not_spent : ServiceEnd.Memory ≡ ServiceEnd.Spent → ⊥
+memory_is_not_spent e = cc
+
+pub loop-preserved : goal.loop-preserved
+loop-preserved g c =
+    let was = c.loop.invariant in
+    let now = c.in-Ok-GoesOn.ensures in
+    record {
+      can = tt;
+      finite = tt;
+      running = now.running;
+      service = record {
+        sound = now.service.sound;
+        knows = λ apps fits. was.service.knows apps (now.service.knows apps fits);
+        as_many = now.service.as_many ∙ was.service.as_many;
+      };
+      accepted = now.accepted c.in-Ok-GoesOn.count (is_round c.in-Ok-GoesOn.field-0 (Round.GoesOn c.in-Ok-GoesOn.count) c.in-Ok-GoesOn.field-0-is);
+      listens = now.fares.listens ∙ was.listens;
+      faults = now.fares.unfailed (no_fault c.in-Ok-GoesOn.field-0) ∙ was.faults;
+    }
+
+pub returns-in-Ok-Finished : goal.returns-in-Ok-Finished
+returns-in-Ok-Finished g c =
+    let was = c.loop.invariant in
+    let now = c.in-Ok-Finished.ensures in
+    record {
+      left = now.left;
+      finished = λ _. now.finished (is_round c.in-Ok-Finished.field-0 Round.Finished c.in-Ok-Finished.field-0-is);
+      resting = λ e. absurd (finished_is_not_listener e);
+      listener = λ e. absurd (finished_is_not_listener e);
+      unfailed = λ _. now.fares.unfailed (no_fault c.in-Ok-Finished.field-0) ∙ was.faults;
+      listens = now.fares.listens ∙ was.listens;
+      never_falls = subst (λ (n : ℕ). n ≤ (g.N.Net.meaning c.turn.new.net).faults) was.faults now.fares.never_falls;
+      sound = now.service.sound;
+      knows = λ apps fits. was.service.knows apps (now.service.knows apps fits);
+      workers = now.service.as_many ∙ was.service.as_many;
+      in_vain = λ e. absurd (finished_is_not_spent e);
+    }
+
+pub returns-in-Err-Listener : goal.returns-in-Err-Listener
+returns-in-Err-Listener g c =
+    let was = c.loop.invariant in
+    let now = c.in-Err-Listener.ensures in
+    record {
+      left = now.left;
+      finished = λ e. absurd (listener_is_not_finished e);
+      resting = λ _. now.fares.resting (is_fault c.in-Err-Listener.field-0 RoundFault.Listener c.in-Err-Listener.field-0-is);
+      listener = λ _. subst (λ (n : ℕ). HasRisen n (g.N.Net.meaning c.turn.new.net).faults) was.faults (now.fares.listener (is_fault c.in-Err-Listener.field-0 RoundFault.Listener c.in-Err-Listener.field-0-is));
+      unfailed = λ other. absurd (other refl);
+      listens = now.fares.listens ∙ was.listens;
+      never_falls = subst (λ (n : ℕ). n ≤ (g.N.Net.meaning c.turn.new.net).faults) was.faults now.fares.never_falls;
+      sound = now.service.sound;
+      knows = λ apps fits. was.service.knows apps (now.service.knows apps fits);
+      workers = now.service.as_many ∙ was.service.as_many;
+      in_vain = λ e. absurd (listener_is_not_spent e);
+    }
+
+pub returns-in-Err-Spent : goal.returns-in-Err-Spent
+returns-in-Err-Spent g c =
+    let was = c.loop.invariant in
+    let now = c.in-Err-Spent.ensures in
+    record {
+      left = now.left;
+      finished = λ e. absurd (spent_is_not_finished e);
+      resting = λ e. absurd (spent_is_not_listener e);
+      listener = λ e. absurd (spent_is_not_listener e);
+      unfailed = λ _. now.fares.unfailed (spent_fault c.in-Err-Spent.field-0 c.in-Err-Spent.field-0-is) ∙ was.faults;
+      listens = now.fares.listens ∙ was.listens;
+      never_falls = subst (λ (n : ℕ). n ≤ (g.N.Net.meaning c.turn.new.net).faults) was.faults now.fares.never_falls;
+      sound = now.service.sound;
+      knows = λ apps fits. was.service.knows apps (now.service.knows apps fits);
+      workers = now.service.as_many ∙ was.service.as_many;
+      in_vain = λ _. now.in_vain (is_fault c.in-Err-Spent.field-0 RoundFault.Spent c.in-Err-Spent.field-0-is);
+    }
+
+pub returns-in-Err-Memory : goal.returns-in-Err-Memory
+returns-in-Err-Memory g c =
+    let was = c.loop.invariant in
+    let now = c.in-Err-Memory.ensures in
+    record {
+      left = now.left;
+      finished = λ e. absurd (memory_is_not_finished e);
+      resting = λ e. absurd (memory_is_not_listener e);
+      listener = λ e. absurd (memory_is_not_listener e);
+      unfailed = λ _. now.fares.unfailed (memory_fault c.in-Err-Memory.field-0 c.in-Err-Memory.field-0-is) ∙ was.faults;
+      listens = now.fares.listens ∙ was.listens;
+      never_falls = subst (λ (n : ℕ). n ≤ (g.N.Net.meaning c.turn.new.net).faults) was.faults now.fares.never_falls;
+      sound = now.service.sound;
+      knows = λ apps fits. was.service.knows apps (now.service.knows apps fits);
+      workers = now.service.as_many ∙ was.service.as_many;
+      in_vain = λ e. absurd (memory_is_not_spent e);
+    }
