@@ -1,8 +1,7 @@
-use Rattle.std.proofs.Common.{◌≡◌, ◌≤◌, refl, sym, ap, ◌∙◌, subst, ℕ, length, Result, Ok, Err}
+use Rattle.std.proofs.Common.{rules, ◌≡◌, ◌≤◌, refl, sym, ap, ◌∙◌, subst, ℕ, length, Result, Ok, Err}
 use Rattle.gv_values.specs.Counts.{HasRisen}
 use Rattle.stream_server.specs.declared.rounds.RoundFault.{RoundFault}
 use Rattle.stream_server.specs.declared.rounds.Round.{Round}
-use Rattle.stream_server.specs.declared.rounds.ServiceEnd.{ServiceEnd}
 use Rattle.stream_server.proofs.Rounding.{running_first}
 use Rattle.stream_server.proofs.rounds.serve_on.Goals as goal
 
@@ -32,33 +31,6 @@ spent_fault f e h = absurd (cc)
 memory_fault : (f : RoundFault) → f ≡ RoundFault.Memory → ◌≡◌ {A = Result Round RoundFault} (Err f) (Err RoundFault.Listener) → ⊥
 memory_fault f e h = absurd (cc)
 
-finished_is_not_listener : ServiceEnd.Finished ≡ ServiceEnd.Listener → ⊥
-finished_is_not_listener e = cc
-
-finished_is_not_spent : ServiceEnd.Finished ≡ ServiceEnd.Spent → ⊥
-finished_is_not_spent e = cc
-
-listener_is_not_finished : ServiceEnd.Listener ≡ ServiceEnd.Finished → ⊥
-listener_is_not_finished e = cc
-
-listener_is_not_spent : ServiceEnd.Listener ≡ ServiceEnd.Spent → ⊥
-listener_is_not_spent e = cc
-
-spent_is_not_finished : ServiceEnd.Spent ≡ ServiceEnd.Finished → ⊥
-spent_is_not_finished e = cc
-
-spent_is_not_listener : ServiceEnd.Spent ≡ ServiceEnd.Listener → ⊥
-spent_is_not_listener e = cc
-
-memory_is_not_finished : ServiceEnd.Memory ≡ ServiceEnd.Finished → ⊥
-memory_is_not_finished e = cc
-
-memory_is_not_listener : ServiceEnd.Memory ≡ ServiceEnd.Listener → ⊥
-memory_is_not_listener e = cc
-
-memory_is_not_spent : ServiceEnd.Memory ≡ ServiceEnd.Spent → ⊥
-memory_is_not_spent e = cc
-
 pub loop-preserved : goal.loop-preserved
 loop-preserved g c =
     let was = c.loop.invariant in
@@ -84,15 +56,15 @@ returns-in-Ok-Finished g c =
     record {
       left = now.left;
       finished = λ _. now.finished (is_round c.in-Ok-Finished.field-0 Round.Finished c.in-Ok-Finished.field-0-is);
-      resting = λ e. absurd (finished_is_not_listener e);
-      listener = λ e. absurd (finished_is_not_listener e);
+      resting = search rules;
+      listener = search rules;
       unfailed = λ _. now.fares.unfailed (no_fault c.in-Ok-Finished.field-0) ∙ was.faults;
       listens = now.fares.listens ∙ was.listens;
       never_falls = subst (λ (n : ℕ). n ≤ (g.N.Net.meaning c.turn.new.net).faults) was.faults now.fares.never_falls;
       sound = now.service.sound;
       knows = λ apps fits. was.service.knows apps (now.service.knows apps fits);
       workers = now.service.as_many ∙ was.service.as_many;
-      in_vain = λ e. absurd (finished_is_not_spent e);
+      in_vain = search rules;
     }
 
 pub returns-in-Err-Listener : goal.returns-in-Err-Listener
@@ -101,7 +73,7 @@ returns-in-Err-Listener g c =
     let now = c.in-Err-Listener.ensures in
     record {
       left = now.left;
-      finished = λ e. absurd (listener_is_not_finished e);
+      finished = search rules;
       resting = λ _. now.fares.resting (is_fault c.in-Err-Listener.field-0 RoundFault.Listener c.in-Err-Listener.field-0-is);
       listener = λ _. subst (λ (n : ℕ). HasRisen n (g.N.Net.meaning c.turn.new.net).faults) was.faults (now.fares.listener (is_fault c.in-Err-Listener.field-0 RoundFault.Listener c.in-Err-Listener.field-0-is));
       unfailed = λ other. absurd (other refl);
@@ -110,7 +82,7 @@ returns-in-Err-Listener g c =
       sound = now.service.sound;
       knows = λ apps fits. was.service.knows apps (now.service.knows apps fits);
       workers = now.service.as_many ∙ was.service.as_many;
-      in_vain = λ e. absurd (listener_is_not_spent e);
+      in_vain = search rules;
     }
 
 pub returns-in-Err-Spent : goal.returns-in-Err-Spent
@@ -119,9 +91,9 @@ returns-in-Err-Spent g c =
     let now = c.in-Err-Spent.ensures in
     record {
       left = now.left;
-      finished = λ e. absurd (spent_is_not_finished e);
-      resting = λ e. absurd (spent_is_not_listener e);
-      listener = λ e. absurd (spent_is_not_listener e);
+      finished = search rules;
+      resting = search rules;
+      listener = search rules;
       unfailed = λ _. now.fares.unfailed (spent_fault c.in-Err-Spent.field-0 c.in-Err-Spent.field-0-is) ∙ was.faults;
       listens = now.fares.listens ∙ was.listens;
       never_falls = subst (λ (n : ℕ). n ≤ (g.N.Net.meaning c.turn.new.net).faults) was.faults now.fares.never_falls;
@@ -137,14 +109,14 @@ returns-in-Err-Memory g c =
     let now = c.in-Err-Memory.ensures in
     record {
       left = now.left;
-      finished = λ e. absurd (memory_is_not_finished e);
-      resting = λ e. absurd (memory_is_not_listener e);
-      listener = λ e. absurd (memory_is_not_listener e);
+      finished = search rules;
+      resting = search rules;
+      listener = search rules;
       unfailed = λ _. now.fares.unfailed (memory_fault c.in-Err-Memory.field-0 c.in-Err-Memory.field-0-is) ∙ was.faults;
       listens = now.fares.listens ∙ was.listens;
       never_falls = subst (λ (n : ℕ). n ≤ (g.N.Net.meaning c.turn.new.net).faults) was.faults now.fares.never_falls;
       sound = now.service.sound;
       knows = λ apps fits. was.service.knows apps (now.service.knows apps fits);
       workers = now.service.as_many ∙ was.service.as_many;
-      in_vain = λ e. absurd (memory_is_not_spent e);
+      in_vain = search rules;
     }
