@@ -1,5 +1,6 @@
 pub mod Admissions
 pub mod Endings
+pub mod Faring
 pub mod Rising
 pub mod Rounding
 pub mod Stepping

@@ -1,5 +1,7 @@
-use Rattle.std.proofs.Common.{arith, refl, sym, subst}
+use Rattle.std.proofs.Common.{◌≡◌, ℕ, Bool, Result, Err, arith, refl, sym, subst, ◌∙◌}
 use Rattle.stream_server.specs.Members.{AreBelow}
+use Rattle.stream_net.specs.declared.net.Accepted.{Accepted}
+use Rattle.stream_server.proofs.Faring.{fares_well, no_fault}
 use Rattle.stream_server.proofs.Rounding.{begun_going, new_left, running_left, running_listens, running_new, running_rests, running_same, same_fault}
 use Rattle.stream_server.specs.declared.rounds.RoundFault.{RoundFault}
 use Rattle.stream_server.proofs.rounds.accept_client.Goals as goal
@@ -46,3 +48,24 @@ returns-in-Failed-clause-fares g c = record {
 
 pub returns-in-Err-clause-in_vain : goal.returns-in-Err-clause-in_vain
 returns-in-Err-clause-in_vain g c = λ e. c.in-Err.ensures.in_vain (same_fault c.in-Err.fault RoundFault.Spent e)
+
+new_is_not_failed : (k : ℕ) → Accepted.New k ≡ Accepted.Failed → ⊥
+new_is_not_failed k e = cc
+
+memory_is_no_listener : ◌≡◌ {A = Result Bool RoundFault} (Err RoundFault.Memory) (Err RoundFault.Listener) → ⊥
+memory_is_no_listener e = cc
+
+pub returns-in_default-clause-fares : goal.returns-in_default-clause-fares
+returns-in_default-clause-fares g c =
+    fares_well _ _ _ _ c.in-New.ensures.accepts.listens (c.in-New.ensures.unfailed (new_is_not_failed c.in-New.conn)) memory_is_no_listener
+
+pub returns-in-Ok-serve_client-clause-fares : goal.returns-in-Ok-serve_client-clause-fares
+returns-in-Ok-serve_client-clause-fares g c =
+    let keeps = c.serve_client.ensures.keeps in
+    fares_well _ _ _ _ (keeps.listens ∙ c.in-New.ensures.accepts.listens) (keeps.faults ∙ c.in-New.ensures.unfailed (new_is_not_failed c.in-New.conn)) (no_fault _ RoundFault.Listener)
+
+pub returns-in-Err-clause-fares : goal.returns-in-Err-clause-fares
+returns-in-Err-clause-fares g c =
+    let keeps = c.serve_client.ensures.keeps in
+    fares_well _ _ _ _ (keeps.listens ∙ c.in-New.ensures.accepts.listens) (keeps.faults ∙ c.in-New.ensures.unfailed (new_is_not_failed c.in-New.conn))
+    (λ e. c.in-Err.ensures.no_listener (same_fault c.in-Err.fault RoundFault.Listener e))

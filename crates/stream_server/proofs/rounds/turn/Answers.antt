@@ -1,41 +1,16 @@
-use Rattle.std.proofs.Common.{◌≡◌, ◌≤◌, ℕ, arith, sym, ◌∙◌, subst, ap, Result, Ok, Err}
+use Rattle.std.proofs.Common.{◌≡◌, arith, sym, ◌∙◌, ap, Result, Err}
 use Rattle.std.proofs.lemmas.Bool.Decides.{nat_tests}
 use Rattle.std.proofs.lemmas.Result.{err_from_is_err_and}
-use Rattle.gv_values.specs.Counts.{HasRisen}
-use Rattle.stream_net.specs.Net.{Connection, NetMeaning}
-use Rattle.stream_server.specs.Keeping.{Fares}
 use Rattle.stream_server.specs.declared.rounds.Round.{Round}
 use Rattle.stream_server.specs.declared.rounds.RoundFault.{RoundFault}
 use Rattle.stream_server.specs.Tables.{client_count}
+use Rattle.stream_server.proofs.Faring.{fares_then, fares_well, no_fault}
 use Rattle.stream_server.proofs.Rounding.{all_asked, none_listed, returned_fault, running_closed, running_left, some_listed}
 use Rattle.stream_server.proofs.rounds.turn.Goals as goal
 use Rattle.stream_server.proofs.rounds.turn.Goals.{then-accepted-limits+else-is_empty, else-accepted-limits}
 
--- nothing failed
-fares_well : (F : Type 0) (S : Connection → Type 0) (v w : NetMeaning) → w.listens ≡ v.listens → w.faults ≡ v.faults → (F → ⊥) → Fares F S v w
-fares_well F S v w listens faults unfailed = record {
-  listens = listens;
-  never_falls = omega (arith, faults);
-  listener = λ f. absurd (unfailed f);
-  resting = λ f. absurd (unfailed f);
-  unfailed = λ _. faults;
-}
-
--- after a part in which nothing failed
-fares_then : (F G : Type 0) (S : Connection → Type 0) (u v w : NetMeaning) → v.listens ≡ u.listens → v.faults ≡ u.faults → Fares F S v w → (G → F) → (F → G) → Fares G S u w
-fares_then F G S u v w listens faults h to from = record {
-  listens = h.listens ∙ listens;
-  never_falls = subst (λ (n : ℕ). n ≤ w.faults) faults h.never_falls;
-  listener = λ f. subst (λ (n : ℕ). HasRisen n w.faults) faults (h.listener (to f));
-  resting = λ f. h.resting (to f);
-  unfailed = λ no. h.unfailed (λ f. no (from f)) ∙ faults;
-}
-
 handed_on : {A B : Type 0} (r : Result A RoundFault) (v f one : RoundFault) → r ≡ Err v → v ≡ f → ◌≡◌ {A = Result B RoundFault} (Err f) (Err one) → r ≡ Err one
 handed_on r v f one is from e = let same : v ≡ one = cc in is ∙ ap (λ (x : RoundFault). Err x) same
-
-no_fault : {A : Type 0} (x : A) (f : RoundFault) → ◌≡◌ {A = Result A RoundFault} (Ok x) (Err f) → ⊥
-no_fault x f e = cc
 
 pub returns-in_err-poll_service-clause-fares : goal.returns-in_err-poll_service-clause-fares
 returns-in_err-poll_service-clause-fares g c =
