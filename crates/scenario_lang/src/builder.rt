@@ -371,12 +371,24 @@ fn with_statement(block: OpenBlock, statement: Statement) -> Result<OpenBlock, A
         opening,
         statements,
     } = block;
-    let statements = with_last(statements, statement)?;
+    let (opening, statements) = both(opening, with_last(statements, statement))?;
     Ok(OpenBlock {
         line,
         opening,
         statements,
     })
+}
+
+/// Both parts, where memory was found for the second. The first is dropped here otherwise, and not where its drop has a
+/// case for each variant.
+fn both<A: Drop, B: Drop>(first: A, second: Result<B, AllocError>) -> Result<(A, B), AllocError>
+    ensures first { IfOk result (λ parts. first ≡ parts.0) }
+    ensures second { IfOk result (λ parts. second ≡ Ok parts.1) }
+{
+    match second {
+        Ok(second) => Ok((first, second)),
+        Err(refusal) => Err(refusal),
+    }
 }
 
 fn with_last(statements: Block, last: Statement) -> Result<Block, AllocError>
