@@ -2,7 +2,7 @@
 ghost use Rattle.std.specs.Prelude.{◌≡◌, IfOk, false, map};
 ghost use Rattle.clap.specs.Words.{app_of, new_app, rule_of, with_rule, with_subcommand};
 ghost use Rattle.clap.specs.declared.builder.command.Command.TheViews.{out-Command};
-ghost use Rattle.command_words.specs.Clap.{command_row, leaf, name_of, option_rule, program, top, with_options};
+ghost use Rattle.command_words.specs.Clap.{command_row, leaf, name_of, option_rule, program, top, with_commands, with_options};
 
 use crate::table::{COMMANDS, CommandOption, CommandRow};
 use clap::{Arg, ArgAction, Command};
@@ -25,7 +25,7 @@ fn with_option<'a>(
     ensures app { IfOk result (λ r. app_of r ≡ with_rule (app_of command.entry) (option_rule name.now)) }
     ensures local { IfOk result (λ r. (out-Command command.entry).has_globals ≡ false → (out-Command r).has_globals ≡ false) }
 {
-    Ok(command.arg(option(alloc, name))?)
+    command.arg(option(alloc, name))
 }
 
 /// The name of an option.
@@ -61,7 +61,7 @@ fn leaf<'a>(alloc: Global, row: &CommandRow) -> Result<Command<'a>, AllocError>
     ensures app { IfOk result (λ r. (app_of r).top ≡ leaf (command_row row.now)) }
     ensures local { IfOk result (λ r. (out-Command r).has_globals ≡ false) }
 {
-    Ok(with_options(alloc, Command::new(alloc, row.name), row.options)?)
+    with_options(alloc, Command::new(alloc, row.name), row.options)
 }
 
 /// The program without its commands: it wants one, and offers no help.
@@ -83,16 +83,28 @@ fn with_command<'a>(
 ) -> Result<Command<'a>, AllocError>
     ensures { IfOk result (λ r. app_of r ≡ with_subcommand (app_of program.entry) (leaf (command_row row.now))) }
 {
-    Ok(program.subcommand(leaf(alloc, row)?)?)
+    let leaf = leaf(alloc, row)?;
+    program.subcommand(leaf)
+}
+
+/// The program with the commands of these rows more.
+fn with_commands<'a>(
+    alloc: Global,
+    program: Command<'a>,
+    rows: &[CommandRow],
+) -> Result<Command<'a>, AllocError>
+    ensures { IfOk result (λ r. app_of r ≡ with_commands (app_of program.entry) (map command_row rows.now)) }
+{
+    let mut program = program;
+    for row in rows {
+        program = with_command(alloc, program, row)?;
+    }
+    Ok(program)
 }
 
 /// The program with its commands.
 pub fn program<'a>(alloc: Global) -> Result<Command<'a>, AllocError>
     ensures { IfOk result (λ r. app_of r ≡ program) }
 {
-    let mut program = top(alloc);
-    for row in &COMMANDS {
-        program = with_command(alloc, program, row)?;
-    }
-    Ok(program)
+    with_commands(alloc, top(alloc), &COMMANDS)
 }

@@ -4,7 +4,7 @@ use gv_values::{
 };
 
 /// An option whose value is a number.
-#[derive(Clone, Copy, Debug, PartialEq, Eq)]
+#[derive(Clone, Copy)]
 pub struct NumberOption {
     /// Its name, which stands behind `--`.
     pub name: &'static str,
@@ -17,7 +17,7 @@ pub struct NumberOption {
 }
 
 /// An option of a command.
-#[derive(Clone, Copy, Debug, PartialEq, Eq)]
+#[derive(Clone, Copy)]
 pub enum CommandOption {
     /// Its value is a number.
     Number(NumberOption),
@@ -30,7 +30,7 @@ pub enum CommandOption {
 }
 
 /// A command: its name, and its options.
-#[derive(Clone, Copy, Debug)]
+#[derive(Clone, Copy)]
 pub struct CommandRow {
     /// Its name.
     pub name: &'static str,

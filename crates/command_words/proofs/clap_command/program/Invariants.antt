@@ -1,8 +1,0 @@
-use Rattle.std.proofs.Common.{◌≡◌, drop, map}
-use Rattle.clap.specs.Words.{app_of}
-use Rattle.command_words.specs.Clap.{command_row, program, with_commands}
-use Rattle.command_words.proofs.clap_command.program.Given as goal
-
--- with the commands that are left, the program is the one with all
-abbrev pub invariant-loop-row : goal.invariant-loop-row
-invariant-loop-row l = with_commands (app_of l.program) (map command_row (drop l.row-index l.row-items)) ≡ program
