@@ -4,6 +4,9 @@
 
 mod fallback_edge;
 
+ghost use Rattle.std.specs.Prelude.{◌≡◌, false};
+ghost use Rattle.stream_net.specs.Net.{IsFresh};
+
 use crate::fallback_edge::{DeafEar, MuteBell, ProgramClock};
 use gv_io::{StdSink, StdSource};
 use gv_top::gvr;
@@ -19,6 +22,8 @@ use std::process::ExitCode;
 use std::sync::Wait;
 use std::thread::Threads;
 use std::{env, io};
+use stream_net::Net;
+use world::World;
 use wsgi_core::ShippedApp;
 
 /// How many bytes of the trace are kept back before they are written out.
@@ -48,8 +53,51 @@ fn words(rt: &HostRuntime) -> Result<Vec<String>, AllocError> {
     Ok(words)
 }
 
-/// Runs the command over the real streams, over native threads that are made of these parts, and over the net of the
-/// system's sockets; gives its status.
+/// Does what the words name over the real streams and this world and net; gives its status.
+fn run_streams<H: Wait, W: World, N: Net>(
+    rt: HostRuntime,
+    handle: &H,
+    words: &[String],
+    native: &mut W,
+    net: &mut N,
+) -> Result<u8, AllocError>
+    requires rests { (W.meaning native.old).runs ≡ false }
+    requires fresh { IsFresh (N.meaning net.old) }
+{
+    let mut input = StdSource::new(rt.reader());
+    let mut err = StdSink::new(rt.alloc(), rt.stderr().lock(), LINE_CAPACITY)?;
+    let mut out = StdSink::new(rt.alloc(), rt.stdout().lock(), TRACE_CAPACITY)?;
+    Ok(gvr(
+        handle,
+        rt.alloc(),
+        words,
+        &mut input,
+        &mut out,
+        &mut err,
+        native,
+        net,
+        &ShippedApp,
+    ))
+}
+
+/// Does what the program's words name over this world and the net of the system's sockets; gives its status.
+fn run_words<H: Wait, W: World>(
+    rt: HostRuntime,
+    handle: &H,
+    native: &mut W,
+) -> Result<u8, AllocError>
+    requires { (W.meaning native.old).runs ≡ false }
+{
+    let words = words(&rt)?;
+    let Ok(mut net) = MioNet::new(rt, rt.alloc()) else {
+        return Err(AllocError);
+    };
+    let status = run_streams(rt, handle, words.as_slice(), native, &mut net);
+    net.let_go();
+    status
+}
+
+/// Runs the command over native threads that are made of these parts; gives its status.
 fn run_over<H: Wait + Copy, R: Ear + Drop, B: Bell + Drop, S: Spawner<B, OpenGate> + Drop>(
     rt: HostRuntime,
     handle: H,
@@ -57,28 +105,9 @@ fn run_over<H: Wait + Copy, R: Ear + Drop, B: Bell + Drop, S: Spawner<B, OpenGat
     bell: B,
     spawner: S,
 ) -> Result<u8, AllocError> {
-    let words = words(&rt)?;
     let clock = ProgramClock::new(rt);
     let mut native = ThreadWorld::new(rt.alloc(), handle, ear, bell, clock, OpenGate, spawner)?;
-    let mut input = StdSource::new(rt.reader());
-    let mut out = StdSink::new(rt.alloc(), rt.stdout().lock(), TRACE_CAPACITY)?;
-    let mut err = StdSink::new(rt.alloc(), rt.stderr().lock(), LINE_CAPACITY)?;
-    let Ok(mut net) = MioNet::new(rt, rt.alloc()) else {
-        return Err(AllocError);
-    };
-    let status = gvr(
-        &handle,
-        rt.alloc(),
-        words.as_slice(),
-        &mut input,
-        &mut out,
-        &mut err,
-        &mut native,
-        &mut net,
-        &ShippedApp,
-    );
-    net.let_go();
-    Ok(status)
+    run_words(rt, &handle, &mut native)
 }
 
 /// Runs the command, and gives its status. Where the system has no poll by which a worker could wake the hub, the hub

@@ -1,5 +1,6 @@
 //! `serve --jobs` over loopback: many connections, each with a job of its own that native threads do, while one reads
 //! nothing.
+ghost use Rattle.std.specs.Prelude.{◌≡◌, false};
 ghost use Rattle.stream_net.specs.Net.{IsFresh};
 
 use gv_io::{MemorySink, MemorySource};
@@ -7,8 +8,8 @@ use gv_top::gvr;
 use mio_net::MioNet;
 use native_board::Bell;
 use native_pool::{
-    Clock, Ear, Gate, OpenGate, Parts, PollEar, Spawner, SteadyClock, ThreadSpawner, ThreadWorld,
-    WakerBell, WorkerTask, spawn_worker,
+    Clock, Ear, Gate, OpenGate, Parts, PollEar, Spawner, StartThread, SteadyClock, ThreadSpawner,
+    ThreadWorld, WakerBell, WorkerTask, spawn_worker,
 };
 use std::alloc::{AllocError, Global};
 use std::io::{Read, Write};
@@ -17,6 +18,7 @@ use std::sync::Wait;
 use std::test::Fail;
 use std::{io, thread};
 use stream_net::Net;
+use world::World;
 use wsgi_core::ShippedApp;
 
 /// How many clients ask and read.
@@ -83,8 +85,45 @@ struct Left {
     out: MemorySink,
 }
 
+/// The words of a line.
+fn words_of(alloc: Global, line: &str) -> Result<Vec<String>, AllocError> {
+    let mut words = Vec::new(alloc);
+    for word in line.split_whitespace() {
+        words.push(String::from_str(alloc, word)?)?;
+    }
+    Ok(words)
+}
+
+/// Calls with these words over this net and world.
+fn call_over<H: Wait, N: Net, W: World>(
+    alloc: Global,
+    rt: &H,
+    words: &[String],
+    net: &mut N,
+    native: &mut W,
+) -> Result<Left, AllocError>
+    requires fresh { IsFresh (N.meaning net.old) }
+    requires rests { (W.meaning native.old).runs ≡ false }
+{
+    let mut err = MemorySink::new(alloc, 100)?;
+    let mut out = MemorySink::new(alloc, 100)?;
+    let mut input = MemorySource::new(Vec::new(alloc), 1, Vec::new(alloc));
+    let status = gvr(
+        rt,
+        alloc,
+        words,
+        &mut input,
+        &mut out,
+        &mut err,
+        native,
+        net,
+        &ShippedApp,
+    );
+    Ok(Left { status, out })
+}
+
 /// Calls with these words over this net and a world of these parts.
-fn call_over<
+fn call_in_world<
     H: Wait + Copy + Drop,
     R: Ear + Drop,
     B: Bell + Drop,
@@ -95,32 +134,36 @@ fn call_over<
 >(
     alloc: Global,
     rt: H,
-    line: &str,
+    words: &[String],
     net: &mut N,
     parts: Parts<R, B, C, G, S>,
 ) -> Result<Left, AllocError>
     requires { IsFresh (N.meaning net.old) }
 {
     let mut native = ThreadWorld::of_parts(alloc, rt, parts)?;
-    let mut words = Vec::new(alloc);
-    for word in line.split_whitespace() {
-        words.push(String::from_str(alloc, word)?)?;
-    }
-    let mut input = MemorySource::new(Vec::new(alloc), 1, Vec::new(alloc));
-    let mut out = MemorySink::new(alloc, 100)?;
-    let mut err = MemorySink::new(alloc, 100)?;
-    let status = gvr(
-        &rt,
-        alloc,
-        words.as_slice(),
-        &mut input,
-        &mut out,
-        &mut err,
-        &mut native,
-        net,
-        &ShippedApp,
-    );
-    Ok(Left { status, out })
+    call_over(alloc, &rt, words, net, &mut native)
+}
+
+/// Serves 65 connections at this port, the jobs on threads that `start` makes.
+fn serve(rt: HostRuntime, port: u16, start: StartThread) -> Result<Left, Fail>
+    requires { IsAlwaysCallable start }
+{
+    let alloc = rt.alloc();
+    let spawner = ThreadSpawner::new(rt, start);
+    let (ear, bell) = PollEar::new(&rt, alloc)?;
+    let clock = SteadyClock::new(rt)?;
+    let parts = Parts {
+        ear,
+        bell,
+        clock,
+        gate: OpenGate,
+        spawner,
+    };
+    let line = format!(in alloc; "serve --port {port} --conns 65 --idle 500 --jobs 4")?;
+    let words = words_of(alloc, line.as_str())?;
+    let mut net = MioNet::new(rt, alloc)?;
+    let left = call_in_world(alloc, rt, words.as_slice(), &mut net, parts)?;
+    Ok(left)
 }
 
 /// A port at which nobody listens.
@@ -141,22 +184,11 @@ fn each_of_64_clients_is_sent_what_its_own_job_came_to(rt: HostRuntime) -> Resul
     for number in 0..CLIENTS {
         clients.push(thread::spawn(&rt, move || is_answered(&rt, port, number))?)?;
     }
-    let (ear, bell) = PollEar::new(&rt, alloc)?;
-    let clock = SteadyClock::new(rt)?;
     let start = Box::new(
         alloc,
         move |task: WorkerTask<WakerBell, OpenGate>| spawn_worker(&rt, task),
     )?;
-    let parts = Parts {
-        ear,
-        bell,
-        clock,
-        gate: OpenGate,
-        spawner: ThreadSpawner::new(rt, start),
-    };
-    let mut net = MioNet::new(rt, alloc)?;
-    let line = format!(in alloc; "serve --port {port} --conns 65 --idle 500 --jobs 4")?;
-    let left = call_over(alloc, rt, line.as_str(), &mut net, parts)?;
+    let left = serve(rt, port, start)?;
     assert_eq!(rt; left.status, 0);
     assert!(rt; left.out.bytes().ends_with(b"served 65\n"));
     for client in clients {
