@@ -379,7 +379,7 @@ fn with_statement(block: OpenBlock, statement: Statement) -> Result<OpenBlock, A
     })
 }
 
-/// Both parts, where memory was found for the second. The first is dropped here otherwise, and not where its drop has a
+/// Both parts, where memory was found for the second. Else the first is dropped here, and not where its drop has a
 /// case for each variant.
 fn both<A: Drop, B: Drop>(first: A, second: Result<B, AllocError>) -> Result<(A, B), AllocError>
     ensures first { IfOk result (λ parts. first ≡ parts.0) }

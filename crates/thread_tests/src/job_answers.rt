@@ -16,6 +16,7 @@ use std::io::{Read, Write};
 use std::net::{Ipv4Addr, SocketAddr, TcpStream};
 use std::sync::Wait;
 use std::test::Fail;
+use std::thread::Threads;
 use std::{io, thread};
 use stream_net::Net;
 use world::World;
@@ -145,11 +146,16 @@ fn call_in_world<
 }
 
 /// Serves 65 connections at this port, the jobs on threads that `start` makes.
-fn serve(rt: HostRuntime, port: u16, start: StartThread) -> Result<Left, Fail>
+fn serve<H: Threads + Wait + Copy + Drop>(
+    rt: HostRuntime,
+    handle: H,
+    port: u16,
+    start: StartThread,
+) -> Result<Left, Fail>
     requires { IsAlwaysCallable start }
 {
     let alloc = rt.alloc();
-    let spawner = ThreadSpawner::new(rt, start);
+    let spawner = ThreadSpawner::new(handle, start);
     let (ear, bell) = PollEar::new(&rt, alloc)?;
     let clock = SteadyClock::new(rt)?;
     let parts = Parts {
@@ -162,7 +168,7 @@ fn serve(rt: HostRuntime, port: u16, start: StartThread) -> Result<Left, Fail>
     let line = format!(in alloc; "serve --port {port} --conns 65 --idle 500 --jobs 4")?;
     let words = words_of(alloc, line.as_str())?;
     let mut net = MioNet::new(rt, alloc)?;
-    let left = call_in_world(alloc, rt, words.as_slice(), &mut net, parts)?;
+    let left = call_in_world(alloc, handle, words.as_slice(), &mut net, parts)?;
     Ok(left)
 }
 
@@ -188,7 +194,7 @@ fn each_of_64_clients_is_sent_what_its_own_job_came_to(rt: HostRuntime) -> Resul
         alloc,
         move |task: WorkerTask<WakerBell, OpenGate>| spawn_worker(&rt, task),
     )?;
-    let left = serve(rt, port, start)?;
+    let left = serve(rt, rt, port, start)?;
     assert_eq!(rt; left.status, 0);
     assert!(rt; left.out.bytes().ends_with(b"served 65\n"));
     for client in clients {
