@@ -26,7 +26,6 @@ struct Applied<'a> {
 impl Code {
     /// The value of the expression, or its first fault. Operands are evaluated from left to right.
     #[cycle(meaning)]
-    #[tactic(auto, using(crate::proofs::Meanings::flat_nothing, crate::proofs::Meanings::flat_bool, crate::proofs::Meanings::flat_int, crate::proofs::Meanings::flat_local, crate::proofs::Meanings::flat_current, crate::proofs::Meanings::flat_fault, crate::proofs::Meanings::flat_list, crate::proofs::Meanings::flat_query))]
     pub fn meaning<L: Look>(
         &self,
         alloc: Global,

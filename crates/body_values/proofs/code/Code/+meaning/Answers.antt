@@ -1,12 +1,30 @@
-use Rattle.std.proofs.Common.{◌∙◌, ap, sym}
+use Rattle.std.proofs.Common.{◌∙◌, ap, arith, sym}
 use Rattle.gv_values.specs.declared.value.Outcome.{Outcome}
 use Rattle.body_names.specs.declared.expression.FlatExpression.{FlatExpression}
 use Rattle.body_names.specs.Expressions.{expression_of}
 use Rattle.body_locals.specs.Locals.{locals_of}
 use Rattle.machine.specs.Bodies.{around}
 use Rattle.machine.specs.Expressions.{meaning}
-use Rattle.body_values.proofs.Meanings.{flat_one, flat_two, flat_both, flat_either}
+use Rattle.body_values.proofs.Meanings.{flat_nothing, flat_bool, flat_int, flat_local, flat_current, flat_fault, flat_one, flat_two, flat_both, flat_either, flat_list, flat_query}
 use Rattle.body_values.proofs.code.Code.+meaning.Goals as goal
+
+pub meaning-returns-in-Nothing : goal.meaning-returns-in-Nothing
+meaning-returns-in-Nothing g t c = grind (arith, flat_nothing)
+
+pub meaning-returns-in-Bool : goal.meaning-returns-in-Bool
+meaning-returns-in-Bool g t c = grind (arith, flat_bool)
+
+pub meaning-returns-in-Int : goal.meaning-returns-in-Int
+meaning-returns-in-Int g t c = grind (arith, flat_int)
+
+pub meaning-returns-in_ok-value_of_local-in-Local : goal.meaning-returns-in_ok-value_of_local-in-Local
+meaning-returns-in_ok-value_of_local-in-Local g t c = grind (arith, flat_local)
+
+pub meaning-returns-in-Current : goal.meaning-returns-in-Current
+meaning-returns-in-Current g t c = grind (arith, flat_current)
+
+pub meaning-returns-in-Fault : goal.meaning-returns-in-Fault
+meaning-returns-in-Fault g t c = grind (arith, flat_fault)
 
 pub meaning-returns-in-Some : goal.meaning-returns-in-Some
 meaning-returns-in-Some g t c =
@@ -56,3 +74,9 @@ meaning-returns-in_ok-of_either-in-Or g t c =
     let a = around c.args.self.now (g.L.Look.answers c.args.look.now) (locals_of names c.args.scope.locals.now) in
     let first = c.in_ok-first-in-Or.ensures ∙ ap (λ (e : FlatExpression). meaning (expression_of names e) a) c.get-in-Or.ensures in
     rw c.in-Or.is (c.in_ok-of_either-in-Or.ensures ∙ flat_either names c.in-Or.a c.in-Or.b a c.in_ok-first-in-Or.first first)
+
+pub meaning-returns-in_ok-of_list-in-List : goal.meaning-returns-in_ok-of_list-in-List
+meaning-returns-in_ok-of_list-in-List g t c = grind (arith, flat_list)
+
+pub meaning-returns-in-Query : goal.meaning-returns-in-Query
+meaning-returns-in-Query g t c = grind (arith, flat_query)
