@@ -9,7 +9,7 @@ ghost use Rattle.body_names.specs.declared.giving.FlatGiving.{FlatGiving as Gran
 ghost use Rattle.body_locals.specs.Locals.{locals_of};
 ghost use Rattle.body_names.specs.Statements.{command_of, giving_of};
 ghost use Rattle.body_blocks.specs.Few.{HasFewArguments};
-ghost use Rattle.body_moves.specs.Chosen.{DoesAs, giving_move, name_if};
+ghost use Rattle.body_moves.specs.Chosen.{AsksObject, ChangesGreenlet, ChangesObject, DoesAs, Makes, giving_move, name_if};
 
 use crate::evaluation::Evaluation;
 use body_names::{FlatCommand, FlatExpression, FlatGiving, LocalSlot};
@@ -89,8 +89,8 @@ macro_rules! values_of {
     };
 }
 
-/// What a statement does that gives no value. It has one arm a form, as the definition has one row, and so is longer than a
-/// screen: forms in groups would be a second table, of which is in which.
+/// What a statement does that gives no value. Each form has one arm, as it has one row in the definition; they stand in
+/// three functions, which are proved in less time than one.
 pub fn choose_command<L: Look>(
     evaluation: &Evaluation<'_, L>,
     command: &FlatCommand,
@@ -107,36 +107,13 @@ pub fn choose_command<L: Look>(
             Request::Print(value_of!(evaluation.meaning(e)?)),
             None,
         )),
-        FlatCommand::Start(e) => Ok(Chosen::Asks(
-            Request::Start(value_of!(evaluation.meaning(e)?)),
-            None,
-        )),
         FlatCommand::Sleep(time) => Ok(Chosen::Asks(Request::Sleep(*time), None)),
-        FlatCommand::Join(e, within) => Ok(Chosen::Asks(
-            Request::Join(value_of!(evaluation.meaning(e)?), timed(*within)),
-            None,
-        )),
-        FlatCommand::Kill(e, fault, wait) => Ok(kill(evaluation, e, fault, *wait)?),
-        FlatCommand::KillAll(e, fault, wait) => Ok(kill_all(evaluation, e, fault, *wait)?),
-        FlatCommand::Unlink(e) => Ok(Chosen::Asks(
-            Request::Unlink(value_of!(evaluation.meaning(e)?)),
-            None,
-        )),
-        FlatCommand::Set(name) => Ok(Chosen::Asks(Request::Set(evaluation.object(*name)), None)),
-        FlatCommand::Clear(name) => Ok(Chosen::Asks(
-            Request::Clear(evaluation.object(*name)),
-            None,
-        )),
         FlatCommand::ResultSet(name, e) => Ok(Chosen::Asks(
             Request::ResultSet(evaluation.object(*name), value_of!(evaluation.meaning(e)?)),
             None,
         )),
         FlatCommand::ResultFail(name, e) => Ok(Chosen::Asks(
             Request::ResultFail(evaluation.object(*name), value_of!(evaluation.meaning(e)?)),
-            None,
-        )),
-        FlatCommand::Release(name) => Ok(Chosen::Asks(
-            Request::Release(evaluation.object(*name)),
             None,
         )),
         FlatCommand::QueuePut(name, e, wait) => Ok(Chosen::Asks(
@@ -147,8 +124,79 @@ pub fn choose_command<L: Look>(
             ),
             None,
         )),
+        FlatCommand::ChannelPut(name, e) => Ok(Chosen::Asks(
+            Request::ChannelPut(evaluation.object(*name), value_of!(evaluation.meaning(e)?)),
+            None,
+        )),
+        FlatCommand::Start(..)
+        | FlatCommand::Join(..)
+        | FlatCommand::Kill(..)
+        | FlatCommand::KillAll(..)
+        | FlatCommand::Unlink(..)
+        | FlatCommand::SetParent(..) => choose_for_greenlets(evaluation, command),
+        FlatCommand::Set(..)
+        | FlatCommand::Clear(..)
+        | FlatCommand::Release(..)
+        | FlatCommand::QueueDone(..)
+        | FlatCommand::QueueShut(..)
+        | FlatCommand::GroupJoin(..)
+        | FlatCommand::GroupKill(..) => choose_for_object(evaluation, command),
+    }
+}
+
+/// What a statement does to greenlets.
+fn choose_for_greenlets<L: Look>(
+    evaluation: &Evaluation<'_, L>,
+    command: &FlatCommand,
+) -> Result<Chosen, AllocError>
+    requires greenlet { ChangesGreenlet command.now }
+    ensures { IfOk result (λ chosen. DoesAs evaluation.now.blocks.now.names chosen evaluation.now.locals.now (command_move (command_of evaluation.now.blocks.now.names command.now) (around evaluation.now.code.now (L.answers evaluation.now.look.now) (locals_of evaluation.now.blocks.now.names evaluation.now.locals.now)))) }
+{
+    match command {
+        FlatCommand::Start(e) => Ok(Chosen::Asks(
+            Request::Start(value_of!(evaluation.meaning(e)?)),
+            None,
+        )),
+        FlatCommand::Join(e, within) => Ok(Chosen::Asks(
+            Request::Join(value_of!(evaluation.meaning(e)?), timed(*within)),
+            None,
+        )),
+        FlatCommand::Kill(e, fault, wait) => Ok(kill(evaluation, e, fault, *wait)?),
+        FlatCommand::KillAll(e, fault, wait) => Ok(kill_all(evaluation, e, fault, *wait)?),
+        FlatCommand::Unlink(e) => Ok(Chosen::Asks(
+            Request::Unlink(value_of!(evaluation.meaning(e)?)),
+            None,
+        )),
+        FlatCommand::SetParent(child, parent) => Ok(set_parent(evaluation, child, parent)?),
+        // `choose_command` hands on only what does something to greenlets.
+        _ => unreachable!(),
+    }
+}
+
+/// What a statement does to an object to which it gives no value.
+fn choose_for_object<L: Look>(
+    evaluation: &Evaluation<'_, L>,
+    command: &FlatCommand,
+) -> Result<Chosen, AllocError>
+    requires object { ChangesObject command.now }
+    ensures { IfOk result (λ chosen. DoesAs evaluation.now.blocks.now.names chosen evaluation.now.locals.now (command_move (command_of evaluation.now.blocks.now.names command.now) (around evaluation.now.code.now (L.answers evaluation.now.look.now) (locals_of evaluation.now.blocks.now.names evaluation.now.locals.now)))) }
+{
+    match command {
+        FlatCommand::Set(name) => Ok(Chosen::Asks(Request::Set(evaluation.object(*name)), None)),
+        FlatCommand::Clear(name) => Ok(Chosen::Asks(
+            Request::Clear(evaluation.object(*name)),
+            None,
+        )),
+        FlatCommand::Release(name) => Ok(Chosen::Asks(
+            Request::Release(evaluation.object(*name)),
+            None,
+        )),
         FlatCommand::QueueDone(name) => Ok(Chosen::Asks(
             Request::QueueDone(evaluation.object(*name)),
+            None,
+        )),
+        FlatCommand::QueueShut(name, immediate) => Ok(Chosen::Asks(
+            Request::QueueShut(evaluation.object(*name), *immediate),
             None,
         )),
         FlatCommand::GroupJoin(name, within) => Ok(Chosen::Asks(
@@ -156,15 +204,8 @@ pub fn choose_command<L: Look>(
             None,
         )),
         FlatCommand::GroupKill(name, fault, now) => Ok(group_kill(evaluation, *name, fault, *now)?),
-        FlatCommand::SetParent(child, parent) => Ok(set_parent(evaluation, child, parent)?),
-        FlatCommand::ChannelPut(name, e) => Ok(Chosen::Asks(
-            Request::ChannelPut(evaluation.object(*name), value_of!(evaluation.meaning(e)?)),
-            None,
-        )),
-        FlatCommand::QueueShut(name, immediate) => Ok(Chosen::Asks(
-            Request::QueueShut(evaluation.object(*name), *immediate),
-            None,
-        )),
+        // `choose_command` hands on only what does something to an object.
+        _ => unreachable!(),
     }
 }
 
@@ -225,8 +266,8 @@ fn set_parent<L: Look>(
     Ok(Chosen::Asks(Request::SetParent(child, parent), None))
 }
 
-/// What a statement does that gives a value, which the local takes. It has one arm a form, and so is longer than a screen
-/// (`choose_command`).
+/// What a statement does that gives a value, which the local takes. Its forms stand in three functions as those of
+/// `choose_command`.
 pub fn choose_giving<L: Look>(
     evaluation: &Evaluation<'_, L>,
     name: Option<LocalSlot>,
@@ -236,28 +277,6 @@ pub fn choose_giving<L: Look>(
     ensures { IfOk result (λ chosen. DoesAs evaluation.now.blocks.now.names chosen evaluation.now.locals.now (giving_move (name_if evaluation.now.blocks.now.names name) (giving_of evaluation.now.blocks.now.names giving.now) (around evaluation.now.code.now (L.answers evaluation.now.look.now) (locals_of evaluation.now.blocks.now.names evaluation.now.locals.now)))) }
 {
     match giving {
-        FlatGiving::Spawn(function, arguments) => Ok(Chosen::Asks(
-            Request::Spawn(
-                evaluation.function(*function),
-                values_of!(evaluation.arguments(arguments)?),
-            ),
-            name,
-        )),
-        FlatGiving::SpawnLater(time, function, arguments) => Ok(Chosen::Asks(
-            Request::SpawnLater(
-                *time,
-                evaluation.function(*function),
-                values_of!(evaluation.arguments(arguments)?),
-            ),
-            name,
-        )),
-        FlatGiving::New(function, arguments) => Ok(Chosen::Asks(
-            Request::New(
-                evaluation.function(*function),
-                values_of!(evaluation.arguments(arguments)?),
-            ),
-            name,
-        )),
         FlatGiving::Get(e, wait) => Ok(Chosen::Asks(
             Request::Get(value_of!(evaluation.meaning(e)?), *wait),
             name,
@@ -286,32 +305,57 @@ pub fn choose_giving<L: Look>(
             ),
             name,
         )),
-        FlatGiving::WaitEvent(object, within) => Ok(Chosen::Asks(
-            Request::WaitEvent(evaluation.object(*object), timed(*within)),
+        FlatGiving::Switch(e, value) => Ok(switch(evaluation, name, e, value)?),
+        FlatGiving::Throw(e, fault) => Ok(throw(evaluation, name, e, fault)?),
+        FlatGiving::Spawn(..)
+        | FlatGiving::SpawnLater(..)
+        | FlatGiving::New(..)
+        | FlatGiving::GroupSpawn(..)
+        | FlatGiving::Map(..)
+        | FlatGiving::NativeSpawn(..)
+        | FlatGiving::Raw(..) => choose_making(evaluation, name, giving),
+        FlatGiving::WaitEvent(..)
+        | FlatGiving::ResultGet(..)
+        | FlatGiving::ResultWait(..)
+        | FlatGiving::Acquire(..)
+        | FlatGiving::QueueGet(..)
+        | FlatGiving::QueuePeek(..)
+        | FlatGiving::QueueJoin(..)
+        | FlatGiving::ChannelGet(..) => choose_asking(evaluation, name, giving),
+    }
+}
+
+/// What a statement does that makes greenlets or a job.
+fn choose_making<L: Look>(
+    evaluation: &Evaluation<'_, L>,
+    name: Option<LocalSlot>,
+    giving: &FlatGiving,
+) -> Result<Chosen, AllocError>
+    requires few { HasFewArguments (giving_of evaluation.now.blocks.now.names giving.now) }
+    requires makes { Makes giving.now }
+    ensures { IfOk result (λ chosen. DoesAs evaluation.now.blocks.now.names chosen evaluation.now.locals.now (giving_move (name_if evaluation.now.blocks.now.names name) (giving_of evaluation.now.blocks.now.names giving.now) (around evaluation.now.code.now (L.answers evaluation.now.look.now) (locals_of evaluation.now.blocks.now.names evaluation.now.locals.now)))) }
+{
+    match giving {
+        FlatGiving::Spawn(function, arguments) => Ok(Chosen::Asks(
+            Request::Spawn(
+                evaluation.function(*function),
+                values_of!(evaluation.arguments(arguments)?),
+            ),
             name,
         )),
-        FlatGiving::ResultGet(object, wait) => Ok(Chosen::Asks(
-            Request::ResultGet(evaluation.object(*object), *wait),
+        FlatGiving::SpawnLater(time, function, arguments) => Ok(Chosen::Asks(
+            Request::SpawnLater(
+                *time,
+                evaluation.function(*function),
+                values_of!(evaluation.arguments(arguments)?),
+            ),
             name,
         )),
-        FlatGiving::ResultWait(object, within) => Ok(Chosen::Asks(
-            Request::ResultWait(evaluation.object(*object), timed(*within)),
-            name,
-        )),
-        FlatGiving::Acquire(object, wait) => Ok(Chosen::Asks(
-            Request::Acquire(evaluation.object(*object), *wait),
-            name,
-        )),
-        FlatGiving::QueueGet(object, wait) => Ok(Chosen::Asks(
-            Request::QueueGet(evaluation.object(*object), *wait),
-            name,
-        )),
-        FlatGiving::QueuePeek(object, wait) => Ok(Chosen::Asks(
-            Request::QueuePeek(evaluation.object(*object), *wait),
-            name,
-        )),
-        FlatGiving::QueueJoin(object, within) => Ok(Chosen::Asks(
-            Request::QueueJoin(evaluation.object(*object), timed(*within)),
+        FlatGiving::New(function, arguments) => Ok(Chosen::Asks(
+            Request::New(
+                evaluation.function(*function),
+                values_of!(evaluation.arguments(arguments)?),
+            ),
             name,
         )),
         FlatGiving::GroupSpawn(group, function, arguments) => Ok(Chosen::Asks(
@@ -340,12 +384,55 @@ pub fn choose_giving<L: Look>(
             name,
         )),
         FlatGiving::Raw(function, e) => Ok(raw(evaluation, name, *function, e)?),
-        FlatGiving::Switch(e, value) => Ok(switch(evaluation, name, e, value)?),
-        FlatGiving::Throw(e, fault) => Ok(throw(evaluation, name, e, fault)?),
+        // `choose_giving` hands on only what makes greenlets or a job.
+        _ => unreachable!(),
+    }
+}
+
+/// What a statement does that asks an object for what it gives.
+fn choose_asking<L: Look>(
+    evaluation: &Evaluation<'_, L>,
+    name: Option<LocalSlot>,
+    giving: &FlatGiving,
+) -> Result<Chosen, AllocError>
+    requires object { AsksObject giving.now }
+    ensures { IfOk result (λ chosen. DoesAs evaluation.now.blocks.now.names chosen evaluation.now.locals.now (giving_move (name_if evaluation.now.blocks.now.names name) (giving_of evaluation.now.blocks.now.names giving.now) (around evaluation.now.code.now (L.answers evaluation.now.look.now) (locals_of evaluation.now.blocks.now.names evaluation.now.locals.now)))) }
+{
+    match giving {
+        FlatGiving::WaitEvent(object, within) => Ok(Chosen::Asks(
+            Request::WaitEvent(evaluation.object(*object), timed(*within)),
+            name,
+        )),
+        FlatGiving::ResultGet(object, wait) => Ok(Chosen::Asks(
+            Request::ResultGet(evaluation.object(*object), *wait),
+            name,
+        )),
+        FlatGiving::ResultWait(object, within) => Ok(Chosen::Asks(
+            Request::ResultWait(evaluation.object(*object), timed(*within)),
+            name,
+        )),
+        FlatGiving::Acquire(object, wait) => Ok(Chosen::Asks(
+            Request::Acquire(evaluation.object(*object), *wait),
+            name,
+        )),
+        FlatGiving::QueueGet(object, wait) => Ok(Chosen::Asks(
+            Request::QueueGet(evaluation.object(*object), *wait),
+            name,
+        )),
+        FlatGiving::QueuePeek(object, wait) => Ok(Chosen::Asks(
+            Request::QueuePeek(evaluation.object(*object), *wait),
+            name,
+        )),
+        FlatGiving::QueueJoin(object, within) => Ok(Chosen::Asks(
+            Request::QueueJoin(evaluation.object(*object), timed(*within)),
+            name,
+        )),
         FlatGiving::ChannelGet(channel) => Ok(Chosen::Asks(
             Request::ChannelGet(evaluation.object(*channel)),
             name,
         )),
+        // `choose_giving` hands on only what asks an object.
+        _ => unreachable!(),
     }
 }
 
