@@ -14,7 +14,7 @@ use trace_laws::Cause;
 use wsgi_connection::ConnectionEnd;
 
 /// What broke a call off.
-#[derive(Clone, Copy, Debug, PartialEq, Eq)]
+#[derive(Clone, Copy)]
 pub enum Failure {
     /// The input could not be read.
     Read,
@@ -53,7 +53,7 @@ impl Failure {
 }
 
 /// What a call that nothing broke off came to.
-#[derive(Clone, Copy, Debug, PartialEq, Eq)]
+#[derive(Clone, Copy)]
 pub enum Conclusion {
     /// All was done, and there is nothing to say of it.
     Finished,
@@ -150,7 +150,7 @@ impl Conclusion {
 }
 
 /// How a call ends.
-#[derive(Clone, Copy, Debug, PartialEq, Eq)]
+#[derive(Clone, Copy)]
 pub enum Verdict {
     /// It came to this.
     Did(Conclusion),

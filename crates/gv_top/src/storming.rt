@@ -62,15 +62,17 @@ fn count_run(alloc: Global, checked: Checked) -> Option<CountedRun>
     ensures { IfSome result (λ run. WasCounted run.ran run.lines (storm_run checked)) }
 {
     followers_run_scripts();
+    let mut world = ScriptWorld::new(alloc, TICK);
+    let Ok(()) = world.begin(WORKERS) else {
+        checked.give_up();
+        return None;
+    };
+    // The engine is made last, so that no exit has one to drop.
     let engine = match Engine::new(alloc, checked, BUDGETS) {
         Ok(engine) => engine,
         Err(EngineRefusal::Memory) => return None,
         // The budgets are within what a run may be given.
         Err(EngineRefusal::Budgets) => unreachable!(),
-    };
-    let mut world = ScriptWorld::new(alloc, TICK);
-    let Ok(()) = world.begin(WORKERS) else {
-        return None;
     };
     let mut counter = LineCounter::new();
     let ran = engine.run(alloc, &mut world, &mut counter);

@@ -249,7 +249,11 @@ fn answer_scenario<K: Sink, W: World>(
         TextCommand::Run(options) => verdict_of_run(run_scenario(
             alloc, checked, options, native, out,
         )),
-        TextCommand::Format => format_scenario(alloc, checked.scenario(), out),
+        TextCommand::Format => {
+            let verdict = format_scenario(alloc, checked.scenario(), out);
+            checked.give_up();
+            verdict
+        }
     }
 }
 

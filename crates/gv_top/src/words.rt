@@ -5,7 +5,7 @@ ghost use Rattle.gv_top.specs.Words.{built, serving};
 use command_words::{GatewayKind, NamedCommand, ServeOptions, TextCommand, TraceCheck};
 
 /// What the program is asked to do without a net.
-#[derive(Clone, Copy, Debug, PartialEq, Eq)]
+#[derive(Clone, Copy)]
 pub enum OfflineCommand {
     /// Do this with the scenario that the input spells.
     Text(TextCommand),

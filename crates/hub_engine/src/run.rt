@@ -121,6 +121,12 @@ impl Model for Engine {
 }
 
 impl Engine {
+    /// Gives up a run that was not begun. What a value's drop does is proved in each crate that drops one, and that of an
+    /// engine is long: it is proved here for all that call this.
+    pub fn give_up(self) {
+        drop(self);
+    }
+
     /// The scenario before its run.
     ///
     /// # Errors

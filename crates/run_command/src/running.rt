@@ -1,6 +1,6 @@
 //! Runs of a scenario in a world.
 ghost use Rattle.gv_io.specs.Streams.{Extends};
-ghost use Rattle.std.specs.Prelude.{◌≡◌, ◌≢◌, ◌≤◌, ◌<◌, ◌⊎◌, ℕ, List, true, false, IfNone, IfSome};
+ghost use Rattle.std.specs.Prelude.{◌≡◌, ◌≢◌, ◌≤◌, ◌<◌, ◌⊎◌, ℕ, true, false, IfNone, IfSome};
 ghost use Rattle.gv_values.specs.Counts.{HasRisen};
 ghost use Rattle.gv_values.specs.declared.limits.TheConstants.{MOST_WORKERS};
 ghost use Rattle.machine.specs.Budgets.{AreBudgets};
@@ -77,6 +77,7 @@ fn run_in_world<K: Sink, W: World>(
     ensures untried { IfNone result (K.faults out.new ≡ K.faults out.old) }
 {
     let Ok(()) = world.begin(workers) else {
+        engine.give_up();
         return None;
     };
     let end = engine.run(alloc, world, out).end;

@@ -49,6 +49,12 @@ impl Checked {
         let Checked { scenario } = self;
         scenario.into_tree()
     }
+
+    /// Gives the scenario up. What a value's drop does is proved in each crate that drops one, and that of a tree is
+    /// long: it is proved here for all that call this.
+    pub fn give_up(self) {
+        drop(self);
+    }
 }
 
 /// The scenario, where it is well formed.

@@ -22,7 +22,7 @@ pub enum ScgiStage {
 }
 
 /// The length of a head, read from the front.
-#[derive(Clone, Copy, Debug, PartialEq, Eq)]
+#[derive(Clone, Copy)]
 pub enum LengthFound {
     /// More bytes have to come.
     LengthWaits,

@@ -11,7 +11,7 @@ use stream_net::{Net, ReadEnd, WriteEnd};
 use wsgi_core::SessionPhase;
 
 /// What a step led to.
-#[derive(Clone, Copy, Debug, PartialEq, Eq)]
+#[derive(Clone, Copy)]
 pub enum Step {
     /// More can be done at once.
     Goes,

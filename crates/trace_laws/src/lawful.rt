@@ -27,7 +27,7 @@ pub enum LawlessTrace {
 }
 
 /// Why the first line of a text was not counted.
-#[derive(Clone, Copy, Debug, PartialEq, Eq)]
+#[derive(Clone, Copy)]
 enum Uncounted {
     /// The text begins with no line.
     NotALine,

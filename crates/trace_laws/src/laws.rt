@@ -37,7 +37,7 @@ impl From<AllocError> for LawRefusal {
 }
 
 /// How a greenlet is left by its last line.
-#[derive(Clone, Copy, Debug, PartialEq, Eq)]
+#[derive(Clone, Copy, PartialEq, Eq)]
 pub(crate) enum GreenletStage {
     /// No line was its.
     Unseen,
@@ -47,7 +47,7 @@ pub(crate) enum GreenletStage {
 }
 
 /// What is kept of a job.
-#[derive(Clone, Copy, Debug, PartialEq, Eq)]
+#[derive(Clone, Copy)]
 pub(crate) struct JobNote {
     /// The job of its last job line.
     job: Job,

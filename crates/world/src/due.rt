@@ -25,7 +25,7 @@ pub(crate) fn moment_of(answer: Answer) -> u64
 }
 
 /// What a script answers, before the job that it names is evaluated.
-#[derive(Clone, Copy, Debug, PartialEq, Eq)]
+#[derive(Clone, Copy)]
 pub(crate) enum Upshot {
     /// The end of this job, at this moment.
     Ends(DueJob, u64),

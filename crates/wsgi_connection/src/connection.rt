@@ -31,7 +31,7 @@ pub enum ConnectionEnd {
 }
 
 /// What a piece led to.
-#[derive(Clone, Copy, Debug, PartialEq, Eq)]
+#[derive(Clone, Copy)]
 pub enum Turn {
     /// So many bytes came and were answered, and the session goes on.
     Answered(usize),

@@ -12,6 +12,6 @@ unreachable-requires c =
 pub returns : goal.returns
 returns c =
     let ran = c.run-ran.ensures in
-    was_counted c.followers_run_scripts.ensures c.run-ran.result c.lines.result c.args.checked c.in-Ok.engine (script_meaning c.new-world.result) _ c.run-ran.new.world
-    c.new-counter.result.text c.run-ran.new.sink.text c.in-Ok.ensures.prepared c.new-world.ensures.tick c.in-Ok-begin.ensures.begins ran.rule
+    was_counted c.followers_run_scripts.ensures c.run-ran.result c.lines.result c.args.checked c.in-Ok-new.engine (script_meaning c.new-world.result) _ c.run-ran.new.world
+    c.new-counter.result.text c.run-ran.new.sink.text c.in-Ok-new.ensures.prepared c.new-world.ensures.tick c.in-Ok.ensures.begins ran.rule
     (ap (λ (s : CounterState). s.text) c.new-counter.ensures) (sym c.is_broken_off.ensures ∙ c.if-is_broken_off.false) c.lines.ensures ran.written ran.numbers ran.log ran.tried
