@@ -77,24 +77,45 @@ pub(crate) fn source_of(alloc: Global, row: &Row) -> Result<MemorySource, AllocE
     Ok(MemorySource::new(bytes, row.piece.max(1), failing))
 }
 
-/// Whether the call of a row, over this world, leaves what the row has.
-pub(crate) fn holds_over<W: World>(
+/// Whether the call of a row, over this err and this world, has the status of the row and leaves its out.
+pub(crate) fn ends_over<E: Sink, W: World>(
     alloc: Global,
     row: &Row,
+    err: &mut E,
     native: &mut W,
 ) -> Result<bool, AllocError>
     requires { (W.meaning native.old).runs ≡ false }
 {
-    let mut input = source_of(alloc, row)?;
     let mut out = MemorySink::new(alloc, row.room)?;
+    let mut input = source_of(alloc, row)?;
+    let status = called(alloc, row.words, &mut input, &mut out, err, native);
+    Ok(status == Ok(row.status) && out.bytes() == row.out)
+}
+
+/// Whether the call of a row, over this world, leaves what the row has.
+fn holds_over<W: World>(alloc: Global, row: &Row, native: &mut W) -> Result<bool, AllocError>
+    requires { (W.meaning native.old).runs ≡ false }
+{
     let mut err = MemorySink::new(alloc, row.err_room)?;
-    let status = called(alloc, row.words, &mut input, &mut out, &mut err, native)?;
-    Ok(status == row.status && out.bytes() == row.out && err.bytes() == row.err)
+    let ends = ends_over(alloc, row, &mut err, native);
+    Ok(ends == Ok(true) && err.bytes() == row.err)
+}
+
+/// Whether the call of a row, over this world, leaves what the row has. The world is given up.
+pub(crate) fn holds_in<W: World + Drop>(
+    alloc: Global,
+    row: &Row,
+    world: W,
+) -> Result<bool, AllocError>
+    requires { (W.meaning world).runs ≡ false }
+{
+    let mut native = world;
+    holds_over(alloc, row, &mut native)
 }
 
 /// Whether the call of a row leaves what the row has.
 pub(crate) fn holds(alloc: Global, row: &Row) -> Result<bool, AllocError> {
-    holds_over(alloc, row, &mut ScriptWorld::new(alloc, 0))
+    holds_in(alloc, row, ScriptWorld::new(alloc, 0))
 }
 
 /// Whether these words answer the input so, in pieces of each of these sizes, and end well.
@@ -104,7 +125,7 @@ pub(crate) fn is_answered(
     input: &[u8],
     pieces: &[usize],
     answer: &[u8],
-) -> Result<bool, AllocError> {
+) -> bool {
     for piece in pieces {
         let row = Row {
             name: "",
@@ -118,11 +139,26 @@ pub(crate) fn is_answered(
             out: answer,
             err: b"",
         };
-        if !holds(alloc, &row)? {
-            return Ok(false);
+        if holds(alloc, &row) != Ok(true) {
+            return false;
         }
     }
-    Ok(true)
+    true
+}
+
+/// Appends the text with so many times `unit` behind it, and then `back`.
+pub(crate) fn push_padded(
+    bytes: &mut Vec<u8>,
+    front: &[u8],
+    unit: u8,
+    count: usize,
+    back: &[u8],
+) -> Result<(), AllocError> {
+    bytes.extend_from_slice(front)?;
+    for _ in 0..count {
+        bytes.push(unit)?;
+    }
+    bytes.extend_from_slice(back)
 }
 
 /// The text with so many times `unit` behind it, and then `back`.
@@ -134,10 +170,6 @@ pub(crate) fn padded(
     back: &[u8],
 ) -> Result<Vec<u8>, AllocError> {
     let mut bytes = Vec::new(alloc);
-    bytes.extend_from_slice(front)?;
-    for _ in 0..count {
-        bytes.push(unit)?;
-    }
-    bytes.extend_from_slice(back)?;
+    push_padded(&mut bytes, front, unit, count, back)?;
     Ok(bytes)
 }

@@ -1,7 +1,6 @@
 //! Connections through the call, by either gateway.
-use crate::calls::{Row, holds, is_answered, padded};
+use crate::calls::{Row, holds, is_answered, padded, push_padded};
 use std::alloc::{AllocError, Global};
-use std::test::Fail;
 
 pub(crate) const HELLO: &[u8] =
     b"HTTP/1.1 200 OK\r\nContent-Type: text/plain\r\nContent-Length: 6\r\n\r\nhello\n";
@@ -64,17 +63,16 @@ const CONNECTIONS: &[(&[u8], usize, &[u8])] = &[
 fn is_answer(alloc: Global, text: &[u8], count: usize, answer: &[u8]) -> Result<bool, AllocError> {
     let input = padded(alloc, text, b'x', count, b"")?;
     Ok(
-        is_answered(alloc, "wsgi", &input, &[1, 19, 4096], answer)?
-            && is_answered(alloc, "wsgi --gateway http", &input, &[4096], answer)?,
+        is_answered(alloc, "wsgi", &input, &[1, 19, 4096], answer)
+            && is_answered(alloc, "wsgi --gateway http", &input, &[4096], answer),
     )
 }
 
 #[test]
-fn connections_in_any_pieces(rt: HostRuntime) -> Result<(), Fail> {
+fn connections_in_any_pieces(rt: HostRuntime) {
     for (text, count, answer) in CONNECTIONS {
-        assert!(rt; is_answer(rt.alloc(), text, *count, answer)?);
+        assert!(rt; is_answer(rt.alloc(), text, *count, answer) == Ok(true));
     }
-    Ok(())
 }
 
 /// Words, what a connection sends, and what it is sent.
@@ -103,26 +101,33 @@ const BY_EITHER_GATEWAY: &[(&str, &[u8], &[u8])] = &[
 ];
 
 #[test]
-fn a_connection_by_either_gateway(rt: HostRuntime) -> Result<(), Fail> {
+fn a_connection_by_either_gateway(rt: HostRuntime) {
     for (words, input, answer) in BY_EITHER_GATEWAY {
         assert!(rt;
-            is_answered(rt.alloc(), words, input, &[1, 4096], answer)?,
+            is_answered(rt.alloc(), words, input, &[1, 4096], answer),
             "{words}"
         );
     }
-    Ok(())
+}
+
+/// Appends this request fifteen times, and then this text with so many bytes behind it.
+fn push_long(
+    bytes: &mut Vec<u8>,
+    request: &[u8],
+    last: &[u8],
+    count: usize,
+) -> Result<(), AllocError> {
+    for _ in 0..15 {
+        bytes.extend_from_slice(request)?;
+    }
+    push_padded(bytes, last, b'x', count, b"")
 }
 
 /// Fifteen requests of 1048576 bytes each, and then this text with so many bytes behind it.
 fn long_input(alloc: Global, last: &[u8], count: usize) -> Result<Vec<u8>, AllocError> {
-    let head = b"POST / HTTP/1.1\r\nContent-Length: 1048532\r\n\r\n";
-    let request = padded(alloc, head, b'x', 1048532, b"")?;
-    let end = padded(alloc, last, b'x', count, b"")?;
+    let request = padded(alloc, WHOLE, b'x', 1048532, b"")?;
     let mut bytes = Vec::new(alloc);
-    for _ in 0..15 {
-        bytes.extend_from_slice(&request)?;
-    }
-    bytes.extend_from_slice(&end)?;
+    push_long(&mut bytes, &request, last, count)?;
     Ok(bytes)
 }
 
@@ -173,9 +178,8 @@ fn is_limited(alloc: Global, long: &Long) -> Result<bool, AllocError> {
 }
 
 #[test]
-fn limit_of_the_connection(rt: HostRuntime) -> Result<(), Fail> {
+fn limit_of_the_connection(rt: HostRuntime) {
     for long in LONG {
-        assert!(rt; is_limited(rt.alloc(), long)?, "{}", long.1);
+        assert!(rt; is_limited(rt.alloc(), long) == Ok(true), "{}", long.1);
     }
-    Ok(())
 }

@@ -1,12 +1,11 @@
 //! Streams that fail, and a peer that waits for its answers.
 ghost use Rattle.std.specs.Prelude.{◌≡◌, None};
 
-use crate::calls::{PRINTED_ONE, PRINTS_ONE, Row, called, holds};
+use crate::calls::{PRINTED_ONE, PRINTS_ONE, Row, called, ends_over, holds};
 use crate::connection_tests::HELLO;
-use gv_io::{Failed, MemorySink, MemorySource, Sink, Source, StdSink};
+use gv_io::{Failed, MemorySink, Sink, Source, StdSink};
 use std::alloc::{AllocError, Global};
 use std::cell::Cell;
-use std::test::Fail;
 use world::ScriptWorld;
 
 const ENDS_BY_A_FAULT: &[u8] = b"def main\nraise Error 7\nend\n";
@@ -162,11 +161,10 @@ const FAULTS: &[Row<'static>] = &[
 ];
 
 #[test]
-fn streams_that_fail(rt: HostRuntime) -> Result<(), Fail> {
+fn streams_that_fail(rt: HostRuntime) {
     for row in FAULTS {
-        assert!(rt; holds(rt.alloc(), row)?, "{}", row.name);
+        assert!(rt; holds(rt.alloc(), row) == Ok(true), "{}", row.name);
     }
-    Ok(())
 }
 
 /// Words, an input, the status and what is written to out, where err always fails.
@@ -186,51 +184,46 @@ const WITHOUT_ERR: &[WithoutErr] = &[
     ("walk", b"", 5, b""),
 ];
 
-/// Calls with the words over an input in one piece, and over this err. The status, and what is written.
-fn called_over<E: Sink>(
-    alloc: Global,
-    words: &str,
-    input: &[u8],
-    err: &mut E,
-) -> Result<(u8, MemorySink), AllocError> {
-    let bytes = Vec::from_slice(alloc, input)?;
-    let mut input = MemorySource::new(bytes, 4096, Vec::new(alloc));
-    let mut out = MemorySink::new(alloc, 1000)?;
-    let status = called(
-        alloc,
+/// Whether this err fails, and the call over it, with an input in one piece, leaves this.
+fn ends_over_failing<E: Sink>(alloc: Global, call: &WithoutErr, err: &mut E) -> bool {
+    let (words, input, status, out) = *call;
+    let row = Row {
+        name: "",
         words,
-        &mut input,
-        &mut out,
-        err,
-        &mut ScriptWorld::new(alloc, 0),
-    )?;
-    Ok((status, out))
+        input,
+        piece: 4096,
+        failing: &[],
+        room: 1000,
+        err_room: 0,
+        status,
+        out,
+        err: b"",
+    };
+    // A sink over the system fails for good once it has failed.
+    let failed = err.write_all(b"x") == Err(Failed);
+    let ends = ends_over(alloc, &row, err, &mut ScriptWorld::new(alloc, 0));
+    failed && ends == Ok(true)
 }
 
 /// Whether the call leaves this where err always fails.
 fn ends_without_err(alloc: Global, row: &WithoutErr) -> Result<bool, AllocError> {
-    let (words, input, wanted, out) = *row;
     let mut nowhere = [0; 0];
     let mut err = StdSink::new(alloc, &mut nowhere[..], 0)?;
-    // A sink over the system fails for good once it has failed.
-    let failed = err.write_all(b"x") == Err(Failed);
-    let (status, written) = called_over(alloc, words, input, &mut err)?;
-    Ok(failed && status == wanted && written.bytes() == out)
+    Ok(ends_over_failing(alloc, row, &mut err))
 }
 
 #[test]
-fn err_that_always_fails(rt: HostRuntime) -> Result<(), Fail> {
+fn err_that_always_fails(rt: HostRuntime) {
     for row in WITHOUT_ERR {
-        assert!(rt; ends_without_err(rt.alloc(), row)?, "{}", row.0);
+        assert!(rt; ends_without_err(rt.alloc(), row) == Ok(true), "{}", row.0);
     }
-    Ok(())
 }
 
 const REQUEST: &[u8] = b"GET / HTTP/1.1\r\n\r\n";
 
 /// A peer that sends one request after another, two in all, and notes before each read and before the end how many
 /// bytes had reached it by then.
-#[derive(Drop)]
+#[derive(Clone, Copy)]
 struct Peer<'a> {
     reached: &'a Cell<usize>,
     reads: usize,
@@ -257,7 +250,7 @@ impl Source for Peer<'_> {
 }
 
 /// The way to that peer: what is written reaches it once it is flushed.
-#[derive(Drop)]
+#[derive(Clone, Copy)]
 pub(crate) struct Way<'a> {
     pub(crate) reached: &'a Cell<usize>,
     pub(crate) held: usize,
@@ -298,8 +291,9 @@ fn answered(alloc: Global, peer: &mut Peer, way: &mut Way) -> Result<u8, AllocEr
     )
 }
 
-#[test]
-fn each_piece_is_answered_before_the_next_is_read(rt: HostRuntime) -> Result<(), Fail> {
+/// Whether the peer is answered with status 0, and each of its requests before its next read.
+fn is_answered_in_time(alloc: Global) -> bool {
+    let greeting = HELLO.len();
     let reached = Cell::new(0);
     let mut peer = Peer {
         reached: &reached,
@@ -310,8 +304,11 @@ fn each_piece_is_answered_before_the_next_is_read(rt: HostRuntime) -> Result<(),
         reached: &reached,
         held: 0,
     };
-    assert!(rt; answered(rt.alloc(), &mut peer, &mut way)? == 0);
-    let greeting = HELLO.len();
-    assert!(rt; peer.noted == [0, greeting, greeting + greeting]);
-    Ok(())
+    let status = answered(alloc, &mut peer, &mut way);
+    status == Ok(0) && peer.noted == [0, greeting, greeting + greeting]
+}
+
+#[test]
+fn each_piece_is_answered_before_the_next_is_read(rt: HostRuntime) {
+    assert!(rt; is_answered_in_time(rt.alloc()));
 }

@@ -1,15 +1,15 @@
 //! Runs with native workers that the tests make: threads that never start, and answers from a list.
 ghost use Rattle.std.specs.Prelude.{◌≡◌, false};
 
-use crate::calls::{Row, called, holds_over};
+use crate::calls::{Row, called, holds_in};
 use crate::fault_tests::Way;
-use gv_io::{MemorySink, MemorySource, Sink};
+use gv_io::{MemorySink, MemorySource};
 use gv_values::{Answer, JobOutcome};
 use native_board::Bell;
 use native_pool::{Clock, Ear, NoThreads, OpenGate, ThreadWorld};
 use std::alloc::{AllocError, Global};
 use std::cell::Cell;
-use std::test::Fail;
+use std::sync::Wait;
 use world::{ListWorld, World};
 
 const TWO_JOBS: &[u8] =
@@ -65,33 +65,46 @@ impl Clock for Still {
     }
 }
 
-#[test]
-fn no_threads(rt: HostRuntime) -> Result<(), Fail> {
-    let alloc = rt.alloc();
-    let row = done_at_once("run --native 2");
-    let mut native = ThreadWorld::new(alloc, rt, Deaf, Mute, Still, OpenGate, NoThreads::new())?;
-    assert!(rt; holds_over(alloc, &row, &mut native)?);
-    Ok(())
+/// Whether the call of a row leaves what the row has, over a world whose threads never start.
+fn holds_without_threads<H: Wait + Drop>(
+    alloc: Global,
+    rt: H,
+    row: &Row,
+) -> Result<bool, AllocError> {
+    let world = ThreadWorld::new(alloc, rt, Deaf, Mute, Still, OpenGate, NoThreads::new())?;
+    holds_in(alloc, row, world)
 }
 
 #[test]
-fn held_listed_answers(rt: HostRuntime) -> Result<(), Fail> {
-    let alloc = rt.alloc();
-    let mut answers = Vec::new(alloc);
-    answers.push(Answer::Done {
+fn no_threads(rt: HostRuntime) {
+    let row = done_at_once("run --native 2");
+    assert!(rt; holds_without_threads(rt.alloc(), rt, &row) == Ok(true));
+}
+
+/// The end of the second of the two jobs, and that of the first.
+const SECOND_JOB_FIRST: &[Answer] = &[
+    Answer::Done {
         number: 2,
         outcome: JobOutcome::Int(4),
         at: 7,
-    })?;
-    answers.push(Answer::Done {
+    },
+    Answer::Done {
         number: 1,
         outcome: JobOutcome::Int(6),
         at: 9,
-    })?;
+    },
+];
+
+/// Whether the call of a row leaves what the row has, over a world that gives these answers.
+fn holds_by_answers(alloc: Global, row: &Row, answers: &[Answer]) -> Result<bool, AllocError> {
+    let answers = Vec::from_slice(alloc, answers)?;
+    holds_in(alloc, row, ListWorld::new(alloc, answers))
+}
+
+#[test]
+fn held_listed_answers(rt: HostRuntime) {
     let row = done_at_once("run --native 1 --order held");
-    let mut native = ListWorld::new(alloc, answers);
-    assert!(rt; holds_over(alloc, &row, &mut native)?);
-    Ok(())
+    assert!(rt; holds_by_answers(rt.alloc(), &row, SECOND_JOB_FIRST) == Ok(true));
 }
 
 /// An ear that notes how many bytes had reached the reader when the program began to wait, and at which the time that
@@ -137,9 +150,22 @@ fn sleeps<W: World>(alloc: Global, way: &mut Way, native: &mut W) -> Result<u8, 
     called(alloc, "run --native 1", &mut input, way, &mut err, native)
 }
 
+/// Runs that text over this ear and a clock that the ear moves. The status.
+fn sleeps_over<H: Wait + Drop>(alloc: Global, rt: H, ear: Noting) -> Result<u8, AllocError> {
+    let clock = Moved {
+        moment: ear.moment,
+        last: 0,
+    };
+    let mut way = Way {
+        reached: ear.reached,
+        held: 0,
+    };
+    let mut native = ThreadWorld::new(alloc, rt, ear, Mute, clock, OpenGate, NoThreads::new())?;
+    sleeps(alloc, &mut way, &mut native)
+}
+
 #[test]
-fn lines_are_handed_on_before_the_program_waits(rt: HostRuntime) -> Result<(), Fail> {
-    let alloc = rt.alloc();
+fn lines_are_handed_on_before_the_program_waits(rt: HostRuntime) {
     let reached = Cell::new(0);
     let noted = Cell::new(0);
     let moment = Cell::new(0);
@@ -148,17 +174,7 @@ fn lines_are_handed_on_before_the_program_waits(rt: HostRuntime) -> Result<(), F
         noted: &noted,
         moment: &moment,
     };
-    let clock = Moved {
-        moment: &moment,
-        last: 0,
-    };
-    let mut way = Way {
-        reached: &reached,
-        held: 0,
-    };
-    let mut native = ThreadWorld::new(alloc, rt, ear, Mute, clock, OpenGate, NoThreads::new())?;
-    assert!(rt; sleeps(alloc, &mut way, &mut native)? == 0);
+    assert!(rt; sleeps_over(rt.alloc(), rt, ear) == Ok(0));
     let before = "start g0 main\nprint g0 1\npark g0 sleep until 5\nblock 5\n";
     assert!(rt; noted.get() == before.len());
-    Ok(())
 }

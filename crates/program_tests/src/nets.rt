@@ -1,11 +1,11 @@
-//! Nets of the tests' own, around another.
+//! A net of the tests' own, around another.
 ghost use Rattle.std.specs.Prelude.{◌≡◌, not, ◌&&◌};
 
 use gv_io::{Failed, one_more};
 use stream_net::{Accepted, Net, ReadEnd, Ready, WriteEnd};
 
 /// What is noted of one connection.
-#[derive(Clone, Copy, Drop)]
+#[derive(Clone, Copy)]
 pub(crate) struct Notes {
     /// Its number.
     pub(crate) conn: u32,
@@ -55,60 +55,12 @@ impl Notes {
     }
 }
 
-/// A net that notes when a connection is read.
+/// A net that notes when a connection is read. It accepts so many connections, and none after them: then its listener
+/// fails, or memory is wanting.
 #[derive(Drop)]
 pub(crate) struct Watched<N> {
     pub(crate) net: N,
     pub(crate) notes: Notes,
-}
-
-impl<N: Net + Drop> Net for Watched<N> {
-    ghost meaning = { λ n. N.meaning n.net };
-
-    ghost readiness = { λ n. N.readiness n.net };
-
-    fn listen(&mut self, port: u16) -> Result<u16, Failed> {
-        self.net.listen(port)
-    }
-
-    fn next(&mut self, until: Option<u64>) -> Result<Ready, Failed> {
-        self.net.next(until)
-    }
-
-    fn accept(&mut self) -> Accepted {
-        self.net.accept()
-    }
-
-    fn read(&mut self, conn: u32, buf: &mut [u8]) -> ReadEnd {
-        self.notes.before_read(conn);
-        let end = self.net.read(conn, buf);
-        self.notes.after_read(conn, end);
-        end
-    }
-
-    fn write(&mut self, conn: u32, bytes: &[u8]) -> WriteEnd {
-        let end = self.net.write(conn, bytes);
-        self.notes.after_write(conn, end);
-        end
-    }
-
-    fn close(&mut self, conn: u32) {
-        self.net.close(conn)
-    }
-
-    fn hold(&mut self, conn: u32, held: bool) {
-        self.net.hold(conn, held)
-    }
-
-    fn now(&self) -> u64 {
-        self.net.now()
-    }
-}
-
-/// A net that accepts so many connections, and none after them: then its listener fails, or memory is wanting.
-#[derive(Drop)]
-pub(crate) struct Worn<N> {
-    pub(crate) net: N,
     /// How many acceptances are left.
     pub(crate) left: u32,
     /// Whether its listener fails.
@@ -119,7 +71,7 @@ pub(crate) struct Worn<N> {
     pub(crate) faults: u64,
 }
 
-impl<N: Net + Drop> Net for Worn<N> {
+impl<N: Net + Drop> Net for Watched<N> {
     ghost meaning = { λ n. record (N.meaning n.net) { faults = n.faults; blocked = not n.refused && (N.meaning n.net).blocked } };
 
     ghost readiness = { λ n. N.readiness n.net };
@@ -169,11 +121,16 @@ impl<N: Net + Drop> Net for Worn<N> {
     }
 
     fn read(&mut self, conn: u32, buf: &mut [u8]) -> ReadEnd {
-        self.net.read(conn, buf)
+        self.notes.before_read(conn);
+        let end = self.net.read(conn, buf);
+        self.notes.after_read(conn, end);
+        end
     }
 
     fn write(&mut self, conn: u32, bytes: &[u8]) -> WriteEnd {
-        self.net.write(conn, bytes)
+        let end = self.net.write(conn, bytes);
+        self.notes.after_write(conn, end);
+        end
     }
 
     fn close(&mut self, conn: u32) {

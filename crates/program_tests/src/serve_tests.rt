@@ -1,10 +1,9 @@
 //! `serve` through the call, over nets in memory.
 ghost use Rattle.std.specs.Prelude.{◌<◌, ◌^◌, length, IfOk};
 
-use crate::served::{Served, is_served, sending};
+use crate::served::{Served, is_served, sending, three, two};
 use std::alloc::{AllocError, Global};
 use std::sync::Wait;
-use std::test::Fail;
 use stream_net::{ConnScript, MemoryNet};
 
 const HELLO_AND_CLOSE: &[u8] =
@@ -13,24 +12,16 @@ const HELLO_AND_CLOSE: &[u8] =
 const LATE: &[u8] =
     b"HTTP/1.1 200 OK\r\nContent-Type: text/plain\r\nTransfer-Encoding: chunked\r\n\r\n4\r\npart\r\n";
 
-/// Half a request, a whole one, and one whose answer faults when it has begun.
-fn three(alloc: Global) -> Result<Vec<ConnScript>, AllocError>
-    ensures { IfOk result (λ scripts. length scripts.items < 2 ^ 32) }
-{
-    let half = sending(alloc, &[b"GET / HT"], &[])?;
-    let whole = sending(
-        alloc,
-        &[b"GET / HTTP/1.1\r\nConnection: close\r\n\r\n"],
-        &[],
-    )?;
-    let late = sending(
-        alloc,
-        &[b"GET /late HTTP/1.1\r\n\r\nGET / HTTP/1.1\r\n\r\n"],
-        &[],
-    )?;
-    Ok(vec![in alloc; half, whole, late]?)
-}
+/// Half a request.
+const HALF: &[u8] = b"GET / HT";
 
+/// A whole one.
+const WHOLE: &[u8] = b"GET / HTTP/1.1\r\nConnection: close\r\n\r\n";
+
+/// One whose answer faults when it has begun, and one more.
+const FAULTS: &[u8] = b"GET /late HTTP/1.1\r\n\r\nGET / HTTP/1.1\r\n\r\n";
+
+/// What those three are sent.
 const SERVED: [&[u8]; 3] = [b"", HELLO_AND_CLOSE, LATE];
 
 /// Calls of `serve` over those connections, how many of them are accepted, and when the second is closed.
@@ -111,30 +102,39 @@ fn holds<H: Wait>(
     call: &(Served<'static>, u32, u64),
 ) -> Result<bool, AllocError> {
     let (served, accepted, closed_at) = *call;
-    let mut net = MemoryNet::new(alloc, 8080, three(alloc)?);
-    Ok(is_served(rt, alloc, &served, &mut net)? && are_served(&net, accepted, closed_at))
+    let mut net = MemoryNet::new(alloc, 8080, three(alloc, HALF, WHOLE, FAULTS)?);
+    let holds = is_served(rt, alloc, &served, &mut net);
+    Ok(holds == Ok(true) && are_served(&net, accepted, closed_at))
 }
 
 #[test]
-fn each_connection_is_served_by_itself(rt: HostRuntime) -> Result<(), Fail> {
+fn each_connection_is_served_by_itself(rt: HostRuntime) {
     for call in CALLS {
-        assert!(rt; holds(&rt, rt.alloc(), call)?, "{}", call.0.words);
+        assert!(rt;
+            holds(&rt, rt.alloc(), call) == Ok(true),
+            "{}",
+            call.0.words
+        );
     }
-    Ok(())
+}
+
+const NOT_SERVED: Served<'static> = Served {
+    words: "serve --port 0 --conns 1",
+    room: 100,
+    status: 10,
+    out: b"",
+    err: b"gvr: network fault\n",
+};
+
+/// Whether a call over a net that does not listen leaves out alone.
+fn leaves_out_alone<H: Wait>(rt: &H, alloc: Global) -> Result<bool, AllocError> {
+    let mut net = MemoryNet::new(alloc, 0, Vec::new(alloc));
+    is_served(rt, alloc, &NOT_SERVED, &mut net)
 }
 
 #[test]
-fn a_net_that_does_not_listen_leaves_out_alone(rt: HostRuntime) -> Result<(), Fail> {
-    let served = Served {
-        words: "serve --port 0 --conns 1",
-        room: 100,
-        status: 10,
-        out: b"",
-        err: b"gvr: network fault\n",
-    };
-    let mut net = MemoryNet::new(rt.alloc(), 0, Vec::new(rt.alloc()));
-    assert!(rt; is_served(&rt, rt.alloc(), &served, &mut net)?);
-    Ok(())
+fn a_net_that_does_not_listen_leaves_out_alone(rt: HostRuntime) {
+    assert!(rt; leaves_out_alone(&rt, rt.alloc()) == Ok(true));
 }
 
 /// Half a request that is never ended; and a whole one, which takes so many bytes write by write and fails at a call.
@@ -145,27 +145,28 @@ fn half_and_whole(
 ) -> Result<Vec<ConnScript>, AllocError>
     ensures { IfOk result (λ scripts. length scripts.items < 2 ^ 32) }
 {
-    let half = sending(alloc, &[b"GET / HT"], &[])?;
-    let mut whole = sending(
-        alloc,
-        &[b"GET / HTTP/1.1\r\nConnection: close\r\n\r\n"],
-        room,
-    )?;
+    let mut whole = sending(alloc, &[WHOLE], room)?;
     whole.fails = fails;
-    Ok(vec![in alloc; half, whole]?)
+    two(alloc, sending(alloc, &[HALF], &[]), Ok(whole))
 }
 
-/// Whether the two are accepted and closed, the first at its idle time and the second at once, and the second is sent
-/// this.
+/// Whether both are accepted and closed, the first at its idle time, the second at once, and the second is sent this.
+fn are_closed(net: &MemoryNet, sent: &[u8]) -> bool {
+    net.written(0) == Some(&b""[..])
+        && net.written(1) == Some(sent)
+        && net.closed_at(0) == Some(1000)
+        && net.closed_at(1) == Some(0)
+}
+
+/// Whether that holds of those two where they are served as the words say.
 fn is_sent<H: Wait>(
     rt: &H,
     alloc: Global,
     words: &str,
-    scripts: Vec<ConnScript>,
+    room: &[u32],
+    fails: Option<u64>,
     sent: &[u8],
-) -> Result<bool, AllocError>
-    requires { length scripts.items < 2 ^ 32 }
-{
+) -> Result<bool, AllocError> {
     let served = Served {
         words,
         room: 100,
@@ -173,64 +174,67 @@ fn is_sent<H: Wait>(
         out: b"listening 8080\nserved 2\n",
         err: b"",
     };
-    let mut net = MemoryNet::new(alloc, 8080, scripts);
-    Ok(
-        is_served(rt, alloc, &served, &mut net)?
-            && net.written(0) == Some(&b""[..])
-            && net.written(1) == Some(sent)
-            && net.closed_at(0) == Some(1000)
-            && net.closed_at(1) == Some(0),
-    )
+    let mut net = MemoryNet::new(alloc, 8080, half_and_whole(alloc, room, fails)?);
+    let holds = is_served(rt, alloc, &served, &mut net);
+    Ok(holds == Ok(true) && are_closed(&net, sent))
 }
 
 const TWO_CONNECTIONS: &str = "serve --port 8080 --conns 2 --pool 2 --idle 1000";
 
 #[test]
-fn an_idle_connection_and_a_quick_one(rt: HostRuntime) -> Result<(), Fail> {
+fn an_idle_connection_and_a_quick_one(rt: HostRuntime) {
     let alloc = rt.alloc();
-    let scripts = half_and_whole(alloc, &[], None)?;
-    assert!(rt; is_sent(&rt, alloc, TWO_CONNECTIONS, scripts, HELLO_AND_CLOSE)?);
-    let scripts = half_and_whole(alloc, &[], None)?;
+    assert!(rt; is_sent(&rt, alloc, TWO_CONNECTIONS, &[], None, HELLO_AND_CLOSE) == Ok(true));
     let words = "serve --port 8080 --conns 2 --pool 2 --idle 1000 --gateway http";
-    assert!(rt; is_sent(&rt, alloc, words, scripts, HELLO_AND_CLOSE)?);
-    Ok(())
+    assert!(rt; is_sent(&rt, alloc, words, &[], None, HELLO_AND_CLOSE) == Ok(true));
 }
 
 /// The rooms 0, 1, 0, 1 and so on of 400 writes.
 fn no_room_and_room_for_one(alloc: Global) -> Result<Vec<u32>, AllocError> {
     let mut rooms = Vec::new(alloc);
     for _ in 0..200 {
-        rooms.push(0)?;
-        rooms.push(1)?;
+        rooms.extend_from_slice(&[0, 1])?;
     }
     Ok(rooms)
 }
 
-#[test]
-fn the_second_connection_fails_at_each_call(rt: HostRuntime) -> Result<(), Fail> {
-    let alloc = rt.alloc();
-    // Its two calls are a read and a write.
-    for call in 0..2 {
-        let scripts = half_and_whole(alloc, &[], Some(call))?;
-        assert!(rt;
-            is_sent(&rt, alloc, TWO_CONNECTIONS, scripts, b"")?,
-            "{call}"
-        );
-    }
+/// Whether the second connection is sent this in writes of those rooms, of which a call fails.
+fn is_sent_in_small_writes<H: Wait>(
+    rt: &H,
+    alloc: Global,
+    fails: Option<u64>,
+    sent: &[u8],
+) -> Result<bool, AllocError> {
     let rooms = no_room_and_room_for_one(alloc)?;
-    let scripts = half_and_whole(alloc, &rooms, None)?;
-    assert!(rt; is_sent(&rt, alloc, TWO_CONNECTIONS, scripts, HELLO_AND_CLOSE)?);
+    is_sent(rt, alloc, TWO_CONNECTIONS, &rooms, fails, sent)
+}
+
+/// The first of the small writes at whose failure the second connection is sent something else than the bytes before.
+fn small_write_that_differs<H: Wait>(rt: &H, alloc: Global) -> Option<u64> {
     // Behind the read each byte takes two writes, of which the first finds no room.
     for taken in 0..HELLO_AND_CLOSE.len() {
         for write in 1..3 {
             let call = taken as u64 * 2 + write;
-            let scripts = half_and_whole(alloc, &rooms, Some(call))?;
             let sent = &HELLO_AND_CLOSE[..taken];
-            assert!(rt;
-                is_sent(&rt, alloc, TWO_CONNECTIONS, scripts, sent)?,
-                "{call}"
-            );
+            if is_sent_in_small_writes(rt, alloc, Some(call), sent) != Ok(true) {
+                return Some(call);
+            }
         }
     }
-    Ok(())
+    None
+}
+
+#[test]
+fn the_second_connection_fails_at_each_call(rt: HostRuntime) {
+    let alloc = rt.alloc();
+    // Its two calls are a read and a write.
+    for call in 0..2 {
+        assert!(rt;
+            is_sent(&rt, alloc, TWO_CONNECTIONS, &[], Some(call), b"") == Ok(true),
+            "{call}"
+        );
+    }
+    assert!(rt; is_sent_in_small_writes(&rt, alloc, None, HELLO_AND_CLOSE) == Ok(true));
+    let differs = small_write_that_differs(&rt, alloc);
+    assert!(rt; differs.is_none(), "{differs:?}");
 }

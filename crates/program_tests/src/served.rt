@@ -1,14 +1,16 @@
 //! The command `serve` through the call, over a net, and what it leaves.
+ghost use Rattle.std.specs.Prelude.{◌≡◌, ◌<◌, ◌^◌, length, false, IfOk};
 ghost use Rattle.stream_net.specs.Net.{IsFresh};
 
 use crate::calls::words_of;
-use gv_io::{MemorySink, MemorySource, Sink};
+use gv_io::{MemorySink, MemorySource};
 use gv_top::gvr;
+use gv_values::Answer;
 use http_messages::Sequence;
 use std::alloc::{AllocError, Global};
 use std::sync::Wait;
 use stream_net::{Arrivals, ConnScript, Net, Piece, Rooms};
-use world::ScriptWorld;
+use world::{ListWorld, ScriptWorld, World};
 use wsgi_core::ShippedApp;
 
 /// A call of `serve`, and what it leaves.
@@ -23,20 +25,21 @@ pub(crate) struct Served<'a> {
     pub(crate) err: &'a [u8],
 }
 
-/// Serves connections of the net as the words say. The status.
-fn serve_net<N: Net, H: Wait, K: Sink, E: Sink>(
+/// Serves connections of the net as the words say, with an input that has nothing. The status.
+fn serve_net<N: Net, W: World, H: Wait>(
     rt: &H,
     alloc: Global,
     line: &str,
     net: &mut N,
-    out: &mut K,
-    err: &mut E,
+    native: &mut W,
+    out: &mut MemorySink,
+    err: &mut MemorySink,
 ) -> Result<u8, AllocError>
-    requires { IsFresh (N.meaning net.old) }
+    requires fresh { IsFresh (N.meaning net.old) }
+    requires rests { (W.meaning native.old).runs ≡ false }
 {
     let words = words_of(alloc, line)?;
     let mut input = MemorySource::new(Vec::new(alloc), 1, Vec::new(alloc));
-    let mut native = ScriptWorld::new(alloc, 0);
     Ok(gvr(
         rt,
         alloc,
@@ -44,10 +47,41 @@ fn serve_net<N: Net, H: Wait, K: Sink, E: Sink>(
         &mut input,
         out,
         err,
-        &mut native,
+        native,
         net,
         &ShippedApp,
     ))
+}
+
+/// Whether the call over this net and this world leaves what it is to leave.
+fn is_served_over<N: Net, W: World, H: Wait>(
+    rt: &H,
+    alloc: Global,
+    served: &Served,
+    net: &mut N,
+    native: &mut W,
+) -> Result<bool, AllocError>
+    requires fresh { IsFresh (N.meaning net.old) }
+    requires rests { (W.meaning native.old).runs ≡ false }
+{
+    let mut out = MemorySink::new(alloc, served.room)?;
+    let mut err = MemorySink::new(alloc, 100)?;
+    let status = serve_net(rt, alloc, served.words, net, native, &mut out, &mut err);
+    Ok(status == Ok(served.status) && out.bytes() == served.out && err.bytes() == served.err)
+}
+
+/// Whether the call over this net leaves what it is to leave, where the native jobs are answered so.
+pub(crate) fn is_served_by<N: Net, H: Wait>(
+    rt: &H,
+    alloc: Global,
+    served: &Served,
+    net: &mut N,
+    answers: &[Answer],
+) -> Result<bool, AllocError>
+    requires { IsFresh (N.meaning net.old) }
+{
+    let answers = Vec::from_slice(alloc, answers)?;
+    is_served_over(rt, alloc, served, net, &mut ListWorld::new(alloc, answers))
 }
 
 /// Whether the call over this net leaves what it is to leave.
@@ -59,10 +93,16 @@ pub(crate) fn is_served<N: Net, H: Wait>(
 ) -> Result<bool, AllocError>
     requires { IsFresh (N.meaning net.old) }
 {
-    let mut out = MemorySink::new(alloc, served.room)?;
-    let mut err = MemorySink::new(alloc, 100)?;
-    let status = serve_net(rt, alloc, served.words, net, &mut out, &mut err)?;
-    Ok(status == served.status && out.bytes() == served.out && err.bytes() == served.err)
+    is_served_over(rt, alloc, served, net, &mut ScriptWorld::new(alloc, 0))
+}
+
+/// Appends these pieces, which arrive at 0.
+fn push_pieces(alloc: Global, pieces: &mut Vec<Piece>, texts: &[&[u8]]) -> Result<(), AllocError> {
+    for text in texts {
+        let bytes = Sequence::from_vec(Vec::from_slice(alloc, text)?);
+        pieces.push(Piece { at: 0, bytes })?;
+    }
+    Ok(())
 }
 
 /// A connection that arrives at 0, sends these pieces at once, takes so many bytes write by write and never ends.
@@ -71,18 +111,42 @@ pub(crate) fn sending(
     texts: &[&[u8]],
     room: &[u32],
 ) -> Result<ConnScript, AllocError> {
+    let room = Rooms::new(Vec::from_slice(alloc, room)?);
     let mut pieces = Vec::new(alloc);
-    for text in texts {
-        pieces.push(Piece {
-            at: 0,
-            bytes: Sequence::from_vec(Vec::from_slice(alloc, text)?),
-        })?;
-    }
+    push_pieces(alloc, &mut pieces, texts)?;
     Ok(ConnScript {
         arrives: 0,
         pieces: Arrivals::new(pieces),
         ends: None,
-        room: Rooms::new(Vec::from_slice(alloc, room)?),
+        room,
         fails: None,
     })
+}
+
+/// The two connections, where memory was found for both.
+pub(crate) fn two(
+    alloc: Global,
+    first: Result<ConnScript, AllocError>,
+    second: Result<ConnScript, AllocError>,
+) -> Result<Vec<ConnScript>, AllocError>
+    ensures { IfOk result (λ scripts. length scripts.items < 2 ^ 32) }
+{
+    let first = first?;
+    let second = second?;
+    Ok(vec![in alloc; first, second]?)
+}
+
+/// Three connections, each of which sends one of these pieces.
+pub(crate) fn three(
+    alloc: Global,
+    first: &[u8],
+    second: &[u8],
+    third: &[u8],
+) -> Result<Vec<ConnScript>, AllocError>
+    ensures { IfOk result (λ scripts. length scripts.items < 2 ^ 32) }
+{
+    let first = sending(alloc, &[first], &[])?;
+    let second = sending(alloc, &[second], &[])?;
+    let third = sending(alloc, &[third], &[])?;
+    Ok(vec![in alloc; first, second, third]?)
 }

@@ -5,36 +5,65 @@ use command_words::{
     command_of,
 };
 use std::alloc::{AllocError, Global};
-use std::test::Fail;
 
-/// The words of a run with these budgets, in this world.
-const RUNS: &[(&str, u64, u64, RunWorld)] = &[
-    ("run", 1000000, 10000000, RunWorld::Script(0)),
-    ("run --moves=10 --turns 3", 3, 10, RunWorld::Script(0)),
+/// Words, and the command that they name.
+const NAMED: &[(&str, NamedCommand)] = &[
+    (
+        "run",
+        NamedCommand::Text(TextCommand::Run(RunOptions {
+            turns: 1000000,
+            moves: 10000000,
+            world: RunWorld::Script(0),
+        })),
+    ),
+    (
+        "run --moves=10 --turns 3",
+        NamedCommand::Text(TextCommand::Run(RunOptions {
+            turns: 3,
+            moves: 10,
+            world: RunWorld::Script(0),
+        })),
+    ),
     (
         "run --turns 10000000 --moves 100000000",
-        10000000,
-        100000000,
-        RunWorld::Script(0),
+        NamedCommand::Text(TextCommand::Run(RunOptions {
+            turns: 10000000,
+            moves: 100000000,
+            world: RunWorld::Script(0),
+        })),
     ),
-    ("run --tick=1000", 1000000, 10000000, RunWorld::Script(1000)),
-    ("run --native 16", 1000000, 10000000, RunWorld::Native(16)),
+    (
+        "run --tick=1000",
+        NamedCommand::Text(TextCommand::Run(RunOptions {
+            turns: 1000000,
+            moves: 10000000,
+            world: RunWorld::Script(1000),
+        })),
+    ),
+    (
+        "run --native 16",
+        NamedCommand::Text(TextCommand::Run(RunOptions {
+            turns: 1000000,
+            moves: 10000000,
+            world: RunWorld::Native(16),
+        })),
+    ),
     (
         "run --order free --native=16",
-        1000000,
-        10000000,
-        RunWorld::Native(16),
+        NamedCommand::Text(TextCommand::Run(RunOptions {
+            turns: 1000000,
+            moves: 10000000,
+            world: RunWorld::Native(16),
+        })),
     ),
     (
         "run --native 4 --order=held",
-        1000000,
-        10000000,
-        RunWorld::Held(4),
+        NamedCommand::Text(TextCommand::Run(RunOptions {
+            turns: 1000000,
+            moves: 10000000,
+            world: RunWorld::Held(4),
+        })),
     ),
-];
-
-/// The words of other commands, and the command that they name.
-const OTHERS: &[(&str, NamedCommand)] = &[
     ("fmt", NamedCommand::Text(TextCommand::Format)),
     ("wsgi", NamedCommand::Wsgi(GatewayKind::Http)),
     ("wsgi --gateway=http", NamedCommand::Wsgi(GatewayKind::Http)),
@@ -122,39 +151,22 @@ const NONE: &[&str] = &[
     "storm --size 3 --turns 3",
 ];
 
-/// Whether this is the command that the words of a line name.
-fn is_asked(alloc: Global, line: &str, command: Option<NamedCommand>) -> Result<bool, AllocError> {
+/// The command that the words of a line name.
+fn named(alloc: Global, line: &str) -> Result<Option<NamedCommand>, AllocError> {
     let words = words_of(alloc, line)?;
-    Ok(command_of(alloc, words.as_slice())? == command)
-}
-
-fn run(turns: u64, moves: u64, world: RunWorld) -> NamedCommand {
-    NamedCommand::Text(TextCommand::Run(RunOptions {
-        turns,
-        moves,
-        world,
-    }))
+    command_of(alloc, words.as_slice())
 }
 
 #[test]
-fn words_name_commands(rt: HostRuntime) -> Result<(), Fail> {
-    let alloc = rt.alloc();
-    for (line, turns, moves, world) in RUNS {
-        assert!(rt;
-            is_asked(alloc, line, Some(run(*turns, *moves, *world)))?,
-            "{line}"
-        );
+fn words_name_commands(rt: HostRuntime) {
+    for (line, command) in NAMED {
+        assert!(rt; named(rt.alloc(), line) == Ok(Some(*command)), "{line}");
     }
-    for (line, command) in OTHERS {
-        assert!(rt; is_asked(alloc, line, Some(*command))?, "{line}");
-    }
-    Ok(())
 }
 
 #[test]
-fn words_that_name_none(rt: HostRuntime) -> Result<(), Fail> {
+fn words_that_name_none(rt: HostRuntime) {
     for line in NONE {
-        assert!(rt; is_asked(rt.alloc(), line, None)?, "{line}");
+        assert!(rt; named(rt.alloc(), line) == Ok(None), "{line}");
     }
-    Ok(())
 }
