@@ -2,22 +2,24 @@
 #![tactic(auto)]
 
 use gv_values::{Answer, FaultKind, JobOutcome, Outcome, Scalar, Value, Whom};
-use std::alloc::Global;
-use std::test::Fail;
+use std::alloc::{AllocError, Global};
 use trace_reader::{LineFault, read_line};
 use trace_text::{Awaited, Line, write_line};
 
 /// Whether the text is read as a line that is written as the same text.
-fn reads_back(alloc: Global, text: &[u8]) -> Result<bool, Fail> {
-    let line = read_line(alloc, text)?;
+fn reads_back(alloc: Global, text: &[u8]) -> bool {
+    let Ok(line) = read_line(alloc, text) else {
+        return false;
+    };
     let mut out = Vec::new(alloc);
-    write_line(&line, &mut out)?;
-    Ok(out.as_slice() == text)
+    let is_whole = write_line(&line, &mut out).is_ok();
+    drop(line);
+    is_whole && out.as_slice() == text
 }
 
 /// Whether the text is no line.
 fn is_refused(alloc: Global, text: &[u8]) -> bool {
-    matches!(read_line(alloc, text), Err(LineFault::NotALine))
+    read_line(alloc, text).err() == Some(LineFault::NotALine)
 }
 
 /// Whole traces.
@@ -27,21 +29,20 @@ const TRACES: &[&[u8]] = &[
 ];
 
 /// Whether each line of the trace reads back.
-fn lines_read_back(alloc: Global, trace: &[u8]) -> Result<bool, Fail> {
+fn lines_read_back(alloc: Global, trace: &[u8]) -> bool {
     for text in trace.split(|b| *b == b'\n') {
-        if !reads_back(alloc, text)? {
-            return Ok(false);
+        if !reads_back(alloc, text) {
+            return false;
         }
     }
-    Ok(true)
+    true
 }
 
 #[test]
-fn reads_the_lines_of_runs(rt: HostRuntime) -> Result<(), Fail> {
+fn reads_the_lines_of_runs(rt: HostRuntime) {
     for trace in TRACES {
-        assert!(rt; lines_read_back(rt.alloc(), trace)?);
+        assert!(rt; lines_read_back(rt.alloc(), trace));
     }
-    Ok(())
 }
 
 /// Lines of every kind.
@@ -97,31 +98,36 @@ const KINDS: &[&str] = &[
 ];
 
 #[test]
-fn reads_lines_of_every_kind(rt: HostRuntime) -> Result<(), Fail> {
+fn reads_lines_of_every_kind(rt: HostRuntime) {
     for text in KINDS {
-        assert!(rt; reads_back(rt.alloc(), text.as_bytes())?, "{text}");
+        assert!(rt; reads_back(rt.alloc(), text.as_bytes()), "{text}");
     }
-    Ok(())
 }
 
 /// Whether the wait for a job with a time limit is read.
-fn reads_a_park(alloc: Global) -> Result<bool, Fail> {
-    let line = read_line(alloc, b"park g1 join j2 until 40")?;
-    Ok(matches!(
-        line,
+fn reads_a_park(alloc: Global) -> bool {
+    let Ok(line) = read_line(alloc, b"park g1 join j2 until 40") else {
+        return false;
+    };
+    let is_read = matches!(
+        &line,
         Line::Park {
             greenlet: 1,
             awaited: Awaited::Join(Whom::Job(2)),
             until: Some(40)
         }
-    ))
+    );
+    drop(line);
+    is_read
 }
 
 /// Whether the turn that brings the outcome of a job is read.
-fn reads_a_turn(alloc: Global) -> Result<bool, Fail> {
-    let line = read_line(alloc, b"turn 4 done j2 10 fault Error(3)")?;
-    Ok(matches!(
-        line,
+fn reads_a_turn(alloc: Global) -> bool {
+    let Ok(line) = read_line(alloc, b"turn 4 done j2 10 fault Error(3)") else {
+        return false;
+    };
+    let is_read = matches!(
+        &line,
         Line::Turn {
             number: 4,
             answer: Answer::Done {
@@ -130,29 +136,40 @@ fn reads_a_turn(alloc: Global) -> Result<bool, Fail> {
                 at: 10
             }
         }
-    ))
+    );
+    drop(line);
+    is_read
 }
 
-/// Whether the end with a list of two is read.
-fn reads_an_end(alloc: Global) -> Result<bool, Fail> {
-    match read_line(alloc, b"end g5 value [7, none]")? {
+/// Whether the line is the end with a list of two.
+fn is_that_end(line: &Line) -> bool {
+    match line {
         Line::End {
             greenlet: 5,
             outcome: Outcome::Value(Value::List(list)),
-        } => Ok(
+        } => {
             (list.get(0), list.get(1), list.get(2))
-                == (Some(Scalar::Int(7)), Some(Scalar::Nothing), None),
-        ),
-        _ => Ok(false),
+                == (Some(Scalar::Int(7)), Some(Scalar::Nothing), None)
+        }
+        _ => false,
     }
 }
 
+/// Whether the end with a list of two is read.
+fn reads_an_end(alloc: Global) -> bool {
+    let Ok(line) = read_line(alloc, b"end g5 value [7, none]") else {
+        return false;
+    };
+    let is_read = is_that_end(&line);
+    drop(line);
+    is_read
+}
+
 #[test]
-fn reads_what_the_line_says(rt: HostRuntime) -> Result<(), Fail> {
-    assert!(rt; reads_a_park(rt.alloc())?);
-    assert!(rt; reads_a_turn(rt.alloc())?);
-    assert!(rt; reads_an_end(rt.alloc())?);
-    Ok(())
+fn reads_what_the_line_says(rt: HostRuntime) {
+    assert!(rt; reads_a_park(rt.alloc()));
+    assert!(rt; reads_a_turn(rt.alloc()));
+    assert!(rt; reads_an_end(rt.alloc()));
 }
 
 /// Texts that are no line.
@@ -199,20 +216,30 @@ fn refuses_what_is_no_line(rt: HostRuntime) {
     }
 }
 
-/// A `print` line of a list of so many zeros.
-fn zeros(alloc: Global, count: usize) -> Result<Vec<u8>, Fail> {
-    let mut text = Vec::new(alloc);
+/// Appends a `print` line of a list of so many zeros.
+fn push_zeros(text: &mut Vec<u8>, count: usize) -> Result<(), AllocError> {
     text.extend_from_slice(b"print g0 [0")?;
     for _ in 1..count {
         text.extend_from_slice(b", 0")?;
     }
     text.push(b']')?;
-    Ok(text)
+    Ok(())
+}
+
+/// Whether the line of a list of so many zeros reads back.
+fn zeros_read_back(alloc: Global, count: usize) -> bool {
+    let mut text = Vec::new(alloc);
+    push_zeros(&mut text, count).is_ok() && reads_back(alloc, &text)
+}
+
+/// Whether a list of so many zeros is no line.
+fn zeros_are_refused(alloc: Global, count: usize) -> bool {
+    let mut text = Vec::new(alloc);
+    push_zeros(&mut text, count).is_ok() && is_refused(alloc, &text)
 }
 
 #[test]
-fn a_list_has_at_most_64_scalars(rt: HostRuntime) -> Result<(), Fail> {
-    assert!(rt; reads_back(rt.alloc(), &zeros(rt.alloc(), 64)?)?);
-    assert!(rt; is_refused(rt.alloc(), &zeros(rt.alloc(), 65)?));
-    Ok(())
+fn a_list_has_at_most_64_scalars(rt: HostRuntime) {
+    assert!(rt; zeros_read_back(rt.alloc(), 64));
+    assert!(rt; zeros_are_refused(rt.alloc(), 65));
 }

@@ -22,28 +22,39 @@ fn source(alloc: Global, failing: &[u64]) -> Result<MemorySource, AllocError>
 const LIMITS: &[(usize, usize)] = &[(0, 1), (6, 7), (7, 8), (8, 8), (1048576, 8)];
 
 /// Whether so many bytes are read under this limit.
-fn reads(alloc: Global, limit: usize, count: usize) -> Result<bool, Fail> {
+fn reads(alloc: Global, limit: usize, count: usize) -> Result<bool, AllocError> {
     let whole: &[u8] = b"def main";
-    let bytes = read_limited(alloc, &mut source(alloc, &[])?, limit)?;
-    Ok(Some(bytes.as_slice()) == whole.get(..count))
+    let mut from = source(alloc, &[])?;
+    let read = read_limited(alloc, &mut from, limit);
+    drop(from);
+    match read {
+        Ok(bytes) => Ok(Some(bytes.as_slice()) == whole.get(..count)),
+        Err(_) => Ok(false),
+    }
 }
 
 #[test]
-fn reads_to_the_end_or_one_past_the_limit(rt: HostRuntime) -> Result<(), Fail> {
+fn reads_to_the_end_or_one_past_the_limit(rt: HostRuntime) {
     for (limit, count) in LIMITS {
-        assert!(rt; reads(rt.alloc(), *limit, *count)?, "limit {limit}");
+        assert!(rt;
+            reads(rt.alloc(), *limit, *count) == Ok(true),
+            "limit {limit}"
+        );
     }
-    Ok(())
+}
+
+/// Whether the second read of the source fails, and gives what is left behind that.
+fn fails_once(alloc: Global, from: &mut MemorySource) -> bool {
+    let mut rest = [0; 8];
+    read_limited(alloc, from, 100).err() == Some(ReadRefusal::Fault)
+        && from.read(&mut rest) == Ok(4)
+        && from.read(&mut rest) == Ok(0)
 }
 
 #[test]
 fn a_listed_read_fails(rt: HostRuntime) -> Result<(), Fail> {
     let mut from = source(rt.alloc(), &[1])?;
-    let answer = read_limited(rt.alloc(), &mut from, 100);
-    assert!(rt; answer.err() == Some(ReadRefusal::Fault));
-    let mut rest = [0; 8];
-    assert!(rt; from.read(&mut rest) == Ok(4));
-    assert!(rt; from.read(&mut rest) == Ok(0));
+    assert!(rt; fails_once(rt.alloc(), &mut from));
     Ok(())
 }
 
@@ -63,11 +74,15 @@ fn a_sink_fails_past_its_room(rt: HostRuntime) -> Result<(), Fail> {
     Ok(())
 }
 
-/// Whether a source over std gives its text to its end.
-fn source_passes_on(alloc: Global) -> Result<bool, Fail> {
-    let text: &[u8] = b"start g0 main";
-    let bytes = read_limited(alloc, &mut StdSource::new(Cursor::new(text)), 100)?;
-    Ok(bytes.as_slice() == text)
+/// Whether a source over this reader of std gives the text to its end.
+fn passes_on<R: Read + Drop>(alloc: Global, reader: R, text: &[u8]) -> bool {
+    let mut from = StdSource::new(reader);
+    let read = read_limited(alloc, &mut from, 100);
+    drop(from);
+    match read {
+        Ok(bytes) => bytes.as_slice() == text,
+        Err(_) => false,
+    }
 }
 
 /// A reader of a text, three bytes at a time, that is interrupted at each second call.
@@ -92,20 +107,17 @@ impl Read for Interrupted<'_> {
 }
 
 #[test]
-fn an_interrupted_read_is_tried_again(rt: HostRuntime) -> Result<(), Fail> {
+fn an_interrupted_read_is_tried_again(rt: HostRuntime) {
     let text: &[u8] = b"start g0 main";
     let reader = Interrupted {
         left: text,
         is_second: false,
     };
-    let mut from = StdSource::new(reader);
-    let bytes = read_limited(rt.alloc(), &mut from, 100)?;
-    assert!(rt; bytes.as_slice() == text);
-    Ok(())
+    assert!(rt; passes_on(rt.alloc(), reader, text));
 }
 
 /// Whether a sink over std that keeps back four bytes passes five on, and fails for good at the sixth.
-fn sink_passes_on(alloc: Global) -> Result<bool, Fail> {
+fn sink_passes_on(alloc: Global) -> Result<bool, AllocError> {
     let mut small = [0; 5];
     let mut to = StdSink::new(alloc, &mut small[..], 4)?;
     Ok(
@@ -119,8 +131,8 @@ fn sink_passes_on(alloc: Global) -> Result<bool, Fail> {
 }
 
 #[test]
-fn std_ends_pass_bytes_on(rt: HostRuntime) -> Result<(), Fail> {
-    assert!(rt; source_passes_on(rt.alloc())?);
-    assert!(rt; sink_passes_on(rt.alloc())?);
-    Ok(())
+fn std_ends_pass_bytes_on(rt: HostRuntime) {
+    let text: &[u8] = b"start g0 main";
+    assert!(rt; passes_on(rt.alloc(), Cursor::new(text), text));
+    assert!(rt; sink_passes_on(rt.alloc()) == Ok(true));
 }
