@@ -1,41 +1,65 @@
 //! The server over the sockets of the system, with a client in a thread of its own.
+ghost use Rattle.std.specs.Prelude.{◌≤◌, IsSome};
+ghost use Rattle.gv_values.specs.declared.limits.TheConstants.{MOST_CONNECTIONS};
+ghost use Rattle.stream_net.specs.Net.{IsFresh};
+
 use mio_net::MioNet;
+use std::alloc::Global;
 use std::io::{Read, Write};
 use std::net::{Ipv4Addr, SocketAddr, TcpStream};
+use std::sync::Wait;
 use std::test::Fail;
+use std::thread::{JoinHandle, Threads};
 use std::{io, thread};
 use stream_net::Net;
 use stream_server::{Limits, ServeEnd, serve};
 use wsgi_core::ShippedApp;
 
+/// Whether the server of so many connections, one at a time, finishes.
+fn is_finished<N: Net, H: Wait>(rt: &H, alloc: Global, net: &mut N, port: u16, conns: u32) -> bool
+    requires listens { IsSome (N.meaning net.old).listens }
+    requires fresh { IsFresh (N.meaning net.old) }
+    requires some { 1 ≤ conns }
+    requires few { conns ≤ MOST_CONNECTIONS }
+{
+    let limits = Limits {
+        pool: 1,
+        conns,
+        idle: 60000,
+    };
+    serve(rt, alloc, net, &ShippedApp, port, limits) == ServeEnd::Finished
+}
+
 const ANSWERS: &[u8] =
     b"HTTP/1.1 200 OK\r\nContent-Type: text/plain\r\nContent-Length: 6\r\n\r\nhello\nHTTP/1.1 200 OK\r\nContent-Type: text/plain\r\nContent-Length: 6\r\nConnection: close\r\n\r\nhello\n";
 
-/// What a client is sent that asks twice.
-fn ask(rt: &HostRuntime, port: u16) -> io::Result<Vec<u8>> {
+/// Whether a client that asks twice is sent both answers, and nothing else.
+fn is_answered(rt: &HostRuntime, port: u16) -> io::Result<bool> {
     let mut stream = TcpStream::connect(rt, SocketAddr::from((Ipv4Addr::LOCALHOST, port)))?;
     stream.write_all(b"GET / HTTP/1.1\r\n\r\nGET / HTTP/1.1\r\nConnection: close\r\n\r\n")?;
     let mut bytes = Vec::new(rt.alloc());
     stream.read_to_end(&mut bytes)?;
-    Ok(bytes)
+    Ok(bytes.as_slice() == ANSWERS)
+}
+
+/// Whether the net listens, and the server over it finishes and answers a client.
+fn answers_a_client<N: Net, H: Threads + Wait>(rt: HostRuntime, handle: &H, net: &mut N) -> bool
+    requires { IsFresh (N.meaning net.old) }
+{
+    let Ok(port) = net.listen(0) else {
+        return false;
+    };
+    let Ok(client) = thread::spawn(handle, move || is_answered(&rt, port).unwrap_or(false)) else {
+        return false;
+    };
+    let is_finished = is_finished(handle, rt.alloc(), net, port, 1);
+    is_finished && client.join(handle)
 }
 
 #[test]
 fn serves_a_client_over_loopback(rt: HostRuntime) -> Result<(), Fail> {
     let mut net = MioNet::new(rt, rt.alloc())?;
-    let Ok(port) = net.listen(0) else {
-        return Err("it doesn't listen".into());
-    };
-    let client = thread::spawn(&rt, move || ask(&rt, port))?;
-    let limits = Limits {
-        pool: 1,
-        conns: 1,
-        idle: 60000,
-    };
-    let end = serve(&rt, rt.alloc(), &mut net, &ShippedApp, port, limits);
-    assert_eq!(rt; end, ServeEnd::Finished);
-    let sent = client.join(&rt)?;
-    assert_eq!(rt; sent.as_slice(), ANSWERS);
+    assert!(rt; answers_a_client(rt, &rt, &mut net));
     Ok(())
 }
 
@@ -48,37 +72,62 @@ const GREEDY_BYTES: usize = 8192 + 204800;
 const TOO_LONG: &[u8] =
     b"HTTP/1.1 414 Request URI Too Long\r\nConnection: close\r\nContent-Length: 0\r\n\r\n";
 
+/// Whether a client that sends this line gets the whole answer and the end.
+fn is_refused(rt: &HostRuntime, port: u16, line: &[u8]) -> io::Result<bool> {
+    let mut stream = TcpStream::connect(rt, SocketAddr::from((Ipv4Addr::LOCALHOST, port)))?;
+    let mut bytes = Vec::new(rt.alloc());
+    let is_sent = stream.write_all(line).is_ok();
+    let is_read = stream.read_to_end(&mut bytes).is_ok();
+    Ok(is_sent && is_read && bytes.as_slice() == TOO_LONG)
+}
+
 /// How many clients, one after the other, get the whole answer and the end, though they send more than is read.
-fn send_more(rt: &HostRuntime, port: u16) -> io::Result<u32> {
-    let line = vec![in rt.alloc(); b'a'; GREEDY_BYTES]?;
+fn count_refused(rt: &HostRuntime, port: u16, line: &[u8]) -> io::Result<u32> {
     let mut whole = 0_u32;
     for _ in 0..GREEDY {
-        let mut stream = TcpStream::connect(rt, SocketAddr::from((Ipv4Addr::LOCALHOST, port)))?;
-        let mut bytes = Vec::new(rt.alloc());
-        let sent = stream.write_all(&line);
-        let read = stream.read_to_end(&mut bytes);
-        if sent.is_ok() && read.is_ok() && bytes.as_slice() == TOO_LONG {
+        if is_refused(rt, port, line)? {
             whole = whole.saturating_add(1);
         }
     }
     Ok(whole)
 }
 
+/// How many of the clients get the whole answer and the end.
+fn send_more(rt: &HostRuntime, port: u16) -> io::Result<u32> {
+    let line = vec![in rt.alloc(); b'a'; GREEDY_BYTES]?;
+    count_refused(rt, port, &line)
+}
+
+/// The clients that send more than they should, in a thread of their own, where the net listens and its server
+/// finishes.
+fn served_clients<N: Net, H: Threads + Wait>(
+    rt: HostRuntime,
+    handle: &H,
+    net: &mut N,
+) -> Option<JoinHandle<u32>>
+    requires { IsFresh (N.meaning net.old) }
+{
+    let Ok(port) = net.listen(0) else {
+        return None;
+    };
+    let Ok(clients) = thread::spawn(handle, move || send_more(&rt, port).unwrap_or(0)) else {
+        return None;
+    };
+    if is_finished(handle, rt.alloc(), net, port, GREEDY) {
+        Some(clients)
+    } else {
+        None
+    }
+}
+
 #[test]
 fn a_client_that_sends_too_much_gets_its_whole_answer(rt: HostRuntime) -> Result<(), Fail> {
     let mut net = MioNet::new(rt, rt.alloc())?;
-    let Ok(port) = net.listen(0) else {
-        return Err("it doesn't listen".into());
-    };
-    let client = thread::spawn(&rt, move || send_more(&rt, port))?;
-    let limits = Limits {
-        pool: 1,
-        conns: GREEDY,
-        idle: 60000,
-    };
-    let end = serve(&rt, rt.alloc(), &mut net, &ShippedApp, port, limits);
-    assert_eq!(rt; end, ServeEnd::Finished);
+    let clients = served_clients(rt, &rt, &mut net);
     net.let_go();
-    assert_eq!(rt; client.join(&rt)?, GREEDY);
+    let Some(clients) = clients else {
+        return Err("the server didn't finish".into());
+    };
+    assert!(rt; clients.join(&rt) == GREEDY);
     Ok(())
 }
