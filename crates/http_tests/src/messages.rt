@@ -47,10 +47,18 @@ fn is_read(alloc: Global, request: &HttpRequest) -> bool {
 }
 
 /// How the body of the request is framed that was found, where it is that one.
-fn framing_of(alloc: Global, found: Found<HttpRequest>) -> Option<Framing> {
+fn framing_of(alloc: Global, found: &Found<HttpRequest>) -> Option<Framing> {
     match found {
-        Found::Whole(request) if is_read(alloc, &request) => Some(request.framing),
+        Found::Whole(request) if is_read(alloc, request) => Some(request.framing),
         _ => None,
+    }
+}
+
+/// Whether the body was found, and is this.
+fn is_whole(found: &BodyFound, wanted: &[u8]) -> bool {
+    match found {
+        BodyFound::BodyWhole(body) => body.items() == wanted,
+        BodyFound::BodyWaits(_) | BodyFound::BodyRefused(_) => false,
     }
 }
 
@@ -63,12 +71,10 @@ fn is_body(
     (wanted, behind): (&[u8], &[u8]),
 ) -> Result<bool, AllocError> {
     let has_come = kept.append(bytes).is_ok();
-    match read_body(alloc, awaited, kept)? {
-        BodyFound::BodyWhole(body) => {
-            Ok(has_come && body.items() == wanted && kept.items() == behind)
-        }
-        BodyFound::BodyWaits(_) | BodyFound::BodyRefused(_) => Ok(false),
-    }
+    let found = read_body(alloc, awaited, kept)?;
+    let is_whole = is_whole(&found, wanted);
+    drop(found);
+    Ok(has_come && is_whole && kept.items() == behind)
 }
 
 /// Whether the request waits for more.
@@ -87,7 +93,9 @@ fn is_read_in_two_pieces(alloc: Global, kept: &mut ByteQueue) -> Result<bool, Al
     }
     kept.append(BACK)?;
     let found = read_request(alloc, 80, kept)?;
-    match framing_of(alloc, found) {
+    let framing = framing_of(alloc, &found);
+    drop(found);
+    match framing {
         Some(framing) => is_body(
             alloc,
             awaited_by(alloc, framing),
