@@ -210,7 +210,11 @@ fn borders(rt: HostRuntime) {
 /// Appends the printed form of what the text is read as; nothing of a text that is refused.
 fn print_text(alloc: Global, text: &str, out: &mut Vec<u8>) -> Result<(), AllocError> {
     match parse(alloc, text.as_bytes()) {
-        Ok(scenario) => print(&scenario, out),
+        Ok(scenario) => {
+            let printed = print(&scenario, out);
+            drop(scenario);
+            printed
+        }
         Err(_) => Ok(()),
     }
 }
