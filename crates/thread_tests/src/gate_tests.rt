@@ -1,6 +1,7 @@
 //! Two jobs, each on a thread of its own, of which the one that comes first is held until the other is answered.
-use crate::calls::{Left, Still, called};
-use crate::held::{EachStarts, HoldingGate, Signals, Watched};
+use crate::calls::{Still, ends_well, writes};
+use crate::held::{EachStarts, HoldingGate, Signals, Start, Watched};
+use gv_io::MemorySink;
 use native_board::Bell;
 use native_pool::{
     Clock, Ear, Gate, Parts, PollEar, Spawner, ThreadWorld, WakerBell, WorkerTask, spawn_worker,
@@ -9,6 +10,7 @@ use std::alloc::{AllocError, Global};
 use std::sync::atomic::Ordering;
 use std::sync::{Arc, Wait};
 use std::test::Fail;
+use std::thread::Threads;
 use world::ListWorld;
 
 const TWO_ECHOES: &[u8] =
@@ -22,17 +24,37 @@ const SECOND_ENDS_FIRST: &[u8] =
 const FIRST_ENDS_FIRST: &[u8] =
     b"start g0 main\njob j1 g0 echo 1\njob j2 g0 echo 2\npark g0 get j2\nblock jobs\nturn 1 done j1 0 value 1\nblock jobs\nturn 2 done j2 0 value 2\nwake g0\nprint g0 1\nend g0 value none\nstop value none turns 3 moves 5\n";
 
-/// Calls to verify that this trace is a run of the two jobs, over a world that has no answers.
-fn verify_recorded(alloc: Global, trace: &[u8]) -> Result<Left, AllocError> {
-    let mut bytes = Vec::from_slice(alloc, TWO_ECHOES)?;
+/// Appends the text of the two jobs, and this trace behind it.
+fn push_recorded(bytes: &mut Vec<u8>, trace: &[u8]) -> Result<(), AllocError> {
+    bytes.extend_from_slice(TWO_ECHOES)?;
     bytes.extend_from_slice(b"====\n")?;
-    bytes.extend_from_slice(trace)?;
-    let mut native = ListWorld::new(alloc, Vec::new(alloc));
-    called(alloc, &["verify"], bytes.as_slice(), &mut native)
+    bytes.extend_from_slice(trace)
 }
 
-/// Calls over a world of these parts, whose answers are signalled.
-fn run_over<
+/// Whether the call to verify that this trace is a run of the two jobs, over a world that has no answers, ends well and
+/// writes this.
+fn is_verified(alloc: Global, trace: &[u8], written: &[u8]) -> Result<bool, AllocError> {
+    let mut bytes = Vec::new(alloc);
+    push_recorded(&mut bytes, trace)?;
+    let mut native = ListWorld::new(alloc, Vec::new(alloc));
+    writes(alloc, "verify", bytes.as_slice(), &mut native, written)
+}
+
+/// Whether this is the trace where the job of this number was held, and is verified.
+fn is_trace_of(alloc: Global, held: u64, trace: &[u8]) -> Result<bool, AllocError> {
+    let (whole, verified) = if held == 1 {
+        (SECOND_ENDS_FIRST, b"verified lines 14\n".as_slice())
+    } else {
+        (FIRST_ENDS_FIRST, b"verified lines 12\n".as_slice())
+    };
+    if trace != whole {
+        return Ok(false);
+    }
+    is_verified(alloc, trace, verified)
+}
+
+/// Calls over a world of these parts, whose answers are signalled. Whether the call ends well.
+fn runs_over<
     H: Wait + Drop,
     R: Ear + Drop,
     B: Bell + Drop,
@@ -44,50 +66,69 @@ fn run_over<
     rt: H,
     parts: Parts<R, B, C, G, S>,
     signals: Arc<Signals, Global>,
-) -> Result<Left, AllocError> {
+    out: &mut MemorySink,
+) -> Result<bool, AllocError> {
     let world = ThreadWorld::of_parts(alloc, rt, parts)?;
     let mut native = Watched { world, signals };
-    Ok(called(alloc, &["run", "--native=2"], TWO_ECHOES, &mut native)?)
+    ends_well(alloc, "run --native=2", TWO_ECHOES, &mut native, out)
 }
 
-#[test]
-fn gate_two_workers(rt: HostRuntime) -> Result<(), Fail> {
+/// Calls over a world of two threads that `start` makes, with a gate that signals. Whether the call ends well.
+fn runs<H: Threads + Wait + Copy + Drop>(
+    rt: HostRuntime,
+    handle: H,
+    start: Start,
+    signals: &Arc<Signals, Global>,
+    out: &mut MemorySink,
+) -> Result<bool, AllocError>
+    requires { IsAlwaysCallable start }
+{
     let alloc = rt.alloc();
-    let signals = Arc::new(alloc, Signals::new())?;
     let gate = HoldingGate {
-        signals: Arc::try_clone(&signals)?,
+        signals: Arc::try_clone(signals)?,
     };
-    let (ear, bell) = PollEar::new(&rt, alloc)?;
-    let start = Box::new(
-        alloc,
-        move |task: WorkerTask<WakerBell, HoldingGate>| spawn_worker(&rt, task),
-    )?;
-    let spawner = EachStarts {
-        rt,
-        start,
-        refused: 0,
-        joined: 0,
+    let seen = Arc::try_clone(signals)?;
+    let Some((ear, bell)) = PollEar::new(&rt, alloc).ok() else {
+        return Ok(false);
     };
     let parts = Parts {
         ear,
         bell,
         clock: Still,
         gate,
-        spawner,
+        spawner: EachStarts {
+            rt: handle,
+            start,
+            refused: 0,
+            joined: 0,
+        },
     };
-    let seen = Arc::try_clone(&signals)?;
-    let left = run_over(alloc, rt, parts, seen)?;
-    assert_eq!(rt; left.status, Some(0));
-    assert_eq!(rt; signals.came.load(Ordering::SeqCst), 2);
-    assert_eq!(rt; signals.given_up.load(Ordering::SeqCst), 0);
-    let verified = verify_recorded(alloc, left.out.bytes())?;
-    assert_eq!(rt; verified.status, Some(0));
-    if signals.held.load(Ordering::SeqCst) == 1 {
-        assert_eq!(rt; left.out.bytes(), SECOND_ENDS_FIRST);
-        assert_eq!(rt; verified.out.bytes(), b"verified lines 14\n".as_slice());
-    } else {
-        assert_eq!(rt; left.out.bytes(), FIRST_ENDS_FIRST);
-        assert_eq!(rt; verified.out.bytes(), b"verified lines 12\n".as_slice());
-    }
+    runs_over(alloc, handle, parts, seen, out)
+}
+
+/// Whether the call on threads that `start` makes ends well, with one job held, and writes the trace of that.
+fn holds_one<H: Threads + Wait + Copy + Drop>(
+    rt: HostRuntime,
+    handle: H,
+    start: Start,
+) -> Result<bool, AllocError>
+    requires { IsAlwaysCallable start }
+{
+    let alloc = rt.alloc();
+    let mut out = MemorySink::new(alloc, 2000)?;
+    let signals = Arc::new(alloc, Signals::new())?;
+    let is_run = runs(rt, handle, start, &signals, &mut out) == Ok(true);
+    let is_held = is_run && signals.is_one_held();
+    let held = signals.held.load(Ordering::SeqCst);
+    Ok(is_held && is_trace_of(alloc, held, out.bytes()) == Ok(true))
+}
+
+#[test]
+fn gate_two_workers(rt: HostRuntime) -> Result<(), Fail> {
+    let start = Box::new(
+        rt.alloc(),
+        move |task: WorkerTask<WakerBell, HoldingGate>| spawn_worker(&rt, task),
+    )?;
+    assert!(rt; holds_one(rt, rt, start) == Ok(true));
     Ok(())
 }

@@ -40,6 +40,11 @@ impl Signals {
         }
     }
 
+    /// Whether both jobs came to the gate, and none was let go though the other was not answered.
+    pub(crate) fn is_one_held(&self) -> bool {
+        self.came.load(Ordering::SeqCst) == 2 && self.given_up.load(Ordering::SeqCst) == 0
+    }
+
     /// Whether a job was answered that is not this one.
     fn is_other_answered(&self, number: u64) -> bool {
         let answered = self.answered.load(Ordering::SeqCst);

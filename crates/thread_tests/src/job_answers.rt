@@ -3,6 +3,7 @@
 ghost use Rattle.std.specs.Prelude.{◌≡◌, false};
 ghost use Rattle.stream_net.specs.Net.{IsFresh};
 
+use crate::calls::words_of;
 use gv_io::{MemorySink, MemorySource};
 use gv_top::gvr;
 use mio_net::MioNet;
@@ -16,7 +17,7 @@ use std::io::{Read, Write};
 use std::net::{Ipv4Addr, SocketAddr, TcpStream};
 use std::sync::Wait;
 use std::test::Fail;
-use std::thread::Threads;
+use std::thread::{JoinHandle, Threads};
 use std::{io, thread};
 use stream_net::Net;
 use world::World;
@@ -86,15 +87,6 @@ struct Left {
     out: MemorySink,
 }
 
-/// The words of a line.
-fn words_of(alloc: Global, line: &str) -> Result<Vec<String>, AllocError> {
-    let mut words = Vec::new(alloc);
-    for word in line.split_whitespace() {
-        words.push(String::from_str(alloc, word)?)?;
-    }
-    Ok(words)
-}
-
 /// Calls with these words over this net and world.
 fn call_over<H: Wait, N: Net, W: World>(
     alloc: Global,
@@ -145,31 +137,100 @@ fn call_in_world<
     call_over(alloc, &rt, words, net, &mut native)
 }
 
-/// Serves 65 connections at this port, the jobs on threads that `start` makes.
-fn serve<H: Threads + Wait + Copy + Drop>(
+/// Whether the call with these words over this net serves 65 connections, the jobs on threads that `start` makes.
+fn serves_over<H: Threads + Wait + Copy + Drop, N: Net>(
     rt: HostRuntime,
     handle: H,
-    port: u16,
+    words: &[String],
+    net: &mut N,
     start: StartThread,
-) -> Result<Left, Fail>
-    requires { IsAlwaysCallable start }
+) -> io::Result<bool>
+    requires callable { IsAlwaysCallable start }
+    requires fresh { IsFresh (N.meaning net.old) }
 {
     let alloc = rt.alloc();
-    let spawner = ThreadSpawner::new(handle, start);
-    let (ear, bell) = PollEar::new(&rt, alloc)?;
     let clock = SteadyClock::new(rt)?;
+    let (ear, bell) = PollEar::new(&rt, alloc)?;
     let parts = Parts {
         ear,
         bell,
         clock,
         gate: OpenGate,
-        spawner,
+        spawner: ThreadSpawner::new(handle, start),
     };
+    let left = call_in_world(alloc, handle, words, net, parts)?;
+    Ok(left.status == 0 && left.out.bytes().ends_with(b"served 65\n"))
+}
+
+/// Whether 65 connections are served at this port, the jobs on threads that `start` makes.
+fn are_served<H: Threads + Wait + Copy + Drop>(
+    rt: HostRuntime,
+    handle: H,
+    port: u16,
+    start: StartThread,
+) -> io::Result<bool>
+    requires { IsAlwaysCallable start }
+{
+    let alloc = rt.alloc();
     let line = format!(in alloc; "serve --port {port} --conns 65 --idle 500 --jobs 4")?;
     let words = words_of(alloc, line.as_str())?;
     let mut net = MioNet::new(rt, alloc)?;
-    let left = call_in_world(alloc, handle, words.as_slice(), &mut net, parts)?;
-    Ok(left)
+    serves_over(rt, handle, words.as_slice(), &mut net, start)
+}
+
+/// Starts the clients that ask and read, each in a thread of its own.
+fn start_clients<H: Threads>(
+    rt: HostRuntime,
+    handle: &H,
+    port: u16,
+    clients: &mut Vec<JoinHandle<bool>>,
+) -> io::Result<()> {
+    for number in 0..CLIENTS {
+        let client = thread::spawn(
+            handle,
+            move || is_answered(&rt, port, number).unwrap_or(false),
+        )?;
+        clients.push(client)?;
+    }
+    Ok(())
+}
+
+/// Whether each of these clients is sent what its own job came to.
+fn are_answered<H: Threads>(handle: &H, clients: Vec<JoinHandle<bool>>) -> bool {
+    for client in clients {
+        if !client.join(handle) {
+            return false;
+        }
+    }
+    true
+}
+
+/// Whether the client that reads nothing has asked.
+fn has_asked<H: Threads>(handle: &H, silent: JoinHandle<io::Result<TcpStream>>) -> bool {
+    let stream = silent.join(handle);
+    let has_asked = stream.is_ok();
+    drop(stream);
+    has_asked
+}
+
+/// Whether all clients are served, with one among them that asks and reads nothing.
+fn serves_all<H: Threads + Wait + Copy + Drop>(
+    rt: HostRuntime,
+    handle: H,
+    port: u16,
+    start: StartThread,
+) -> bool
+    requires { IsAlwaysCallable start }
+{
+    let Ok(silent) = thread::spawn(&handle, move || ask_alone(&rt, port)) else {
+        return false;
+    };
+    let mut clients = Vec::new(rt.alloc());
+    if start_clients(rt, &handle, port, &mut clients).is_err() {
+        return false;
+    }
+    let are_served = are_served(rt, handle, port, start).unwrap_or(false);
+    are_served && are_answered(&handle, clients) && has_asked(&handle, silent)
 }
 
 /// A port at which nobody listens.
@@ -183,23 +244,11 @@ fn free_port(rt: HostRuntime) -> Result<u16, Fail> {
 
 #[test]
 fn each_of_64_clients_is_sent_what_its_own_job_came_to(rt: HostRuntime) -> Result<(), Fail> {
-    let alloc = rt.alloc();
     let port = free_port(rt)?;
-    let silent = thread::spawn(&rt, move || ask_alone(&rt, port))?;
-    let mut clients = Vec::new(alloc);
-    for number in 0..CLIENTS {
-        clients.push(thread::spawn(&rt, move || is_answered(&rt, port, number))?)?;
-    }
     let start = Box::new(
-        alloc,
+        rt.alloc(),
         move |task: WorkerTask<WakerBell, OpenGate>| spawn_worker(&rt, task),
     )?;
-    let left = serve(rt, rt, port, start)?;
-    assert_eq!(rt; left.status, 0);
-    assert!(rt; left.out.bytes().ends_with(b"served 65\n"));
-    for client in clients {
-        assert!(rt; client.join(&rt)?);
-    }
-    drop(silent.join(&rt)?);
+    assert!(rt; serves_all(rt, rt, port, start));
     Ok(())
 }

@@ -1,5 +1,5 @@
 //! Jobs on threads, whose results are told in the order of a script.
-use crate::calls::{Still, called};
+use crate::calls::{Still, writes};
 use native_pool::{
     OpenGate, PollEar, Spawner, ThreadSpawner, ThreadWorld, WakerBell, WorkerTask, spawn_worker,
 };
@@ -14,25 +14,27 @@ const KILLED_WAITER: &[u8] =
 const ITS_TRACE: &[u8] =
     b"start g0 main\npark g0 sleep until 5\nstart g1 slow\njob j1 g1 sum 5\npark g1 get j1\nstart g2 quick\njob j2 g2 fail 3\npark g2 get j2\nblock 5\nturn 1 elapsed 5\nwake g0\npark g0 kill g2\nturn 2 nothing 5\nthrow g2 GreenletExit\nend g2 value GreenletExit\nturn 3 nothing 5\nwake g0\npark g0 nspawn n\nblock jobs\nturn 4 done j2 10 fault Error(3)\nwake g0\njob j3 g0 echo 9\npark g0 get j3\nblock jobs\nturn 5 done j3 10 value 9\nwake g0\nprint g0 9\npark g0 join g1\nblock jobs\nturn 6 done j1 30 value 15\nwake g1\nprint g1 15\nend g1 value none\nturn 7 nothing 30\nwake g0\nend g0 value none\nstop value none turns 8 moves 13\n";
 
-/// Whether the call with so many workers leaves that trace, over a world of these parts.
-fn leaves_its_trace<H: Wait + Drop, S: Spawner<WakerBell, OpenGate> + Drop>(
+/// Whether the call with the words of this line writes that trace, over a world of these parts.
+fn writes_its_trace<H: Wait + Drop, S: Spawner<WakerBell, OpenGate> + Drop>(
     alloc: Global,
     rt: H,
     ear: PollEar,
     bell: WakerBell,
     spawner: S,
-    workers: &str,
+    line: &str,
 ) -> Result<bool, AllocError> {
     let mut native = ThreadWorld::new(alloc, rt, ear, bell, Still, OpenGate, spawner)?;
-    let words = ["run", "--native", workers, "--order", "held"];
-    let left = called(alloc, &words, KILLED_WAITER, &mut native)?;
-    Ok(left.status == Some(0) && left.out.bytes() == ITS_TRACE)
+    writes(alloc, line, KILLED_WAITER, &mut native, ITS_TRACE)
 }
 
 #[test]
 fn held_job_of_a_killed_waiter(rt: HostRuntime) -> Result<(), Fail> {
     let alloc = rt.alloc();
-    for workers in ["1", "2", "4"] {
+    for line in [
+        "run --native 1 --order held",
+        "run --native 2 --order held",
+        "run --native 4 --order held",
+    ] {
         let start = Box::new(
             alloc,
             move |task: WorkerTask<WakerBell, OpenGate>| spawn_worker(&rt, task),
@@ -40,8 +42,8 @@ fn held_job_of_a_killed_waiter(rt: HostRuntime) -> Result<(), Fail> {
         let (ear, bell) = PollEar::new(&rt, alloc)?;
         let spawner = ThreadSpawner::new(rt, start);
         assert!(rt;
-            leaves_its_trace(alloc, rt, ear, bell, spawner, workers)?,
-            "{workers}"
+            writes_its_trace(alloc, rt, ear, bell, spawner, line)?,
+            "{line}"
         );
     }
     Ok(())
