@@ -86,6 +86,11 @@ fn writes_the_lines_of_a_greenlet(rt: HostRuntime) -> Result<(), Fail> {
             "late g0"
         )
     );
+    Ok(())
+}
+
+#[test]
+fn writes_what_comes_to_a_greenlet(rt: HostRuntime) {
     assert!(rt;
         is_written(
             rt.alloc(),
@@ -116,7 +121,6 @@ fn writes_the_lines_of_a_greenlet(rt: HostRuntime) -> Result<(), Fail> {
             "end g1 value none"
         )
     );
-    Ok(())
 }
 
 #[test]
@@ -169,6 +173,11 @@ fn writes_the_lines_of_the_hub(rt: HostRuntime) -> Result<(), Fail> {
     assert!(rt; is_written(rt.alloc(), Line::Block(Blocked::Until(5)), "block 5"));
     assert!(rt; is_written(rt.alloc(), Line::Block(Blocked::Jobs), "block jobs"));
     assert!(rt; is_written(rt.alloc(), Line::Block(Blocked::Nothing), "block none"));
+    Ok(())
+}
+
+#[test]
+fn writes_turns_and_stops(rt: HostRuntime) {
     assert!(rt;
         is_written(
             rt.alloc(),
@@ -225,5 +234,4 @@ fn writes_the_lines_of_the_hub(rt: HostRuntime) -> Result<(), Fail> {
             "stop no-greenlets turns 0 moves 40000"
         )
     );
-    Ok(())
 }

@@ -25,6 +25,13 @@ pub(crate) struct Served<'a> {
     pub(crate) err: &'a [u8],
 }
 
+/// What a call writes.
+#[derive(Drop)]
+struct Written {
+    out: MemorySink,
+    err: MemorySink,
+}
+
 /// Serves connections of the net as the words say, with an input that has nothing. The status.
 fn serve_net<N: Net, W: World, H: Wait>(
     rt: &H,
@@ -32,8 +39,7 @@ fn serve_net<N: Net, W: World, H: Wait>(
     line: &str,
     net: &mut N,
     native: &mut W,
-    out: &mut MemorySink,
-    err: &mut MemorySink,
+    written: &mut Written,
 ) -> Result<u8, AllocError>
     requires fresh { IsFresh (N.meaning net.old) }
     requires rests { (W.meaning native.old).runs ≡ false }
@@ -45,8 +51,8 @@ fn serve_net<N: Net, W: World, H: Wait>(
         alloc,
         words.as_slice(),
         &mut input,
-        out,
-        err,
+        &mut written.out,
+        &mut written.err,
         native,
         net,
         &ShippedApp,
@@ -64,10 +70,12 @@ fn is_served_over<N: Net, W: World, H: Wait>(
     requires fresh { IsFresh (N.meaning net.old) }
     requires rests { (W.meaning native.old).runs ≡ false }
 {
-    let mut out = MemorySink::new(alloc, served.room)?;
-    let mut err = MemorySink::new(alloc, 100)?;
-    let status = serve_net(rt, alloc, served.words, net, native, &mut out, &mut err);
-    Ok(status == Ok(served.status) && out.bytes() == served.out && err.bytes() == served.err)
+    let out = MemorySink::new(alloc, served.room)?;
+    let err = MemorySink::new(alloc, 100)?;
+    let mut written = Written { out, err };
+    let status = serve_net(rt, alloc, served.words, net, native, &mut written);
+    let is_written = written.out.bytes() == served.out && written.err.bytes() == served.err;
+    Ok(status == Ok(served.status) && is_written)
 }
 
 /// Whether the call over this net leaves what it is to leave, where the native jobs are answered so.
