@@ -1,9 +1,9 @@
 #!/usr/bin/env python3
 """Makes the page's WebAssembly module of the static library gvr_page, which is proved: make_module.py [--proved] MODULE.wasm
 
-What gvr_page stands on is taken as it lies in out/ of those crates. The proof is kept, in out/checked, and so is the
-module, under the checksum of the code that it is made from; neither is made again where all is the same. With --proved,
-as after `rt ci`, a module that is kept is taken without asking for the proof.
+What gvr_page stands on is taken from where tools/prove_crates leaves it, and with --proved from where `rt ci` does. The
+proof is kept, in out/checked, and so is the module, under the checksum of the code that it is made from; neither is
+made again where all is the same. With --proved a module that is kept is taken without asking for the proof.
 
 The kit's back ends for wasm64 refuse what takes memory from a Global. So the LLVM module that the kit makes of the
 library for x86-64 is taken where the kit hands it to its clang; it is given the data layout and the triple of wasm64,
@@ -26,6 +26,7 @@ CLANG = KIT / "toolchain/bin/clang"
 NAME = "gvr_page"
 CRATE = TOP / "crates" / NAME
 CHECKED = CRATE / "out/checked"
+IS_PROVED = "--proved" in sys.argv[1:]
 TRIPLE = "wasm64-unknown-unknown"
 LAYOUT = "e-m:e-p:64:64-p10:8:8-p20:8:8-i64:64-i128:128-n32:64-S128-ni:1:10:20"
 # As the kit calls clang for this target.
@@ -99,15 +100,18 @@ echo | exec "{CLANG}" -x c -c - -o "$out"
     return room / "tools"
 
 
+def place_of(crate):
+    """The folder that the crate's library lies in."""
+    return TOP / (f"crates/{crate}/out/rlib" if IS_PROVED else "crates/gvr/out/libraries")
+
+
 def words_of(uses):
     """What a check and a build of the crate have in common."""
     words = ["--crate-name", NAME, "src/lib.rt"]
     for it in ["core", "std", *uses[NAME]]:
-        place = TOP / f"crates/{it}/out/rlib/{it}.rlib" if it in uses else KIT / f"rlibs/{it}.rlib"
-        words += ["--extern", f"{it}={place}"]
-    words += ["-L", f"dependency={KIT}/rlibs"]
-    for it in below(NAME, uses, []):
-        words += ["-L", f"dependency={TOP}/crates/{it}/out/rlib"]
+        words += ["--extern", f"{it}={place_of(it) if it in uses else KIT / 'rlibs'}/{it}.rlib"]
+    for place in dict.fromkeys([KIT / "rlibs", *map(place_of, below(NAME, uses, []))]):
+        words += ["-L", f"dependency={place}"]
     return [*words, "--antt-project", KIT / "rattle/logic/antt-project.json", "--links", f"{NAME}=", "--crate-type", "staticlib"]
 
 
@@ -180,7 +184,7 @@ def main():
     kept.mkdir(parents=True, exist_ok=True)
     module = kept / f"{checksum(uses)}.wasm"
     is_made = module.exists()
-    if not (is_made and "--proved" in sys.argv[1:]) and not is_proved(uses):
+    if not (is_made and IS_PROVED) and not is_proved(uses):
         print("make_module: proves gvr_page, which takes some minutes", file=sys.stderr)
         prove(uses)
     if not is_made:

@@ -14,7 +14,7 @@ use std::io::{BufRead, BufReader};
 use std::process::ExitCode;
 
 /// What is read next.
-#[derive(Clone, Copy, Debug, PartialEq, Eq)]
+#[derive(Clone, Copy)]
 enum Part {
     /// The line of words.
     Words,
@@ -25,7 +25,7 @@ enum Part {
 }
 
 /// How many rows were run, and how many of them differ.
-#[derive(Clone, Copy, Debug, Default)]
+#[derive(Clone, Copy)]
 struct Counts {
     rows: u64,
     differ: u64,
@@ -90,7 +90,7 @@ fn runs(rt: &HostRuntime) -> io::Result<Counts> {
     let mut reader = Reader {
         row: None,
         part: Part::Words,
-        counts: Counts::default(),
+        counts: Counts { rows: 0, differ: 0 },
     };
     for line in BufReader::new(rt.alloc(), rt.reader())?.lines(rt.alloc()) {
         let line = line?;

@@ -20,7 +20,7 @@ pub(crate) const SMALL_PIECE: usize = 7;
 
 /// How the streams of a call behave: how many bytes the input has, and whether it gives few at a time, which read fails,
 /// and how many bytes out and err take.
-#[derive(Clone, Copy, Debug)]
+#[derive(Clone, Copy)]
 pub(crate) struct Streams {
     pub length: usize,
     pub has_small_pieces: bool,
@@ -30,7 +30,7 @@ pub(crate) struct Streams {
 }
 
 /// What a call is to say.
-#[derive(Clone, Copy, Debug)]
+#[derive(Clone, Copy)]
 pub(crate) struct Wanted<'a> {
     pub status: Option<u8>,
     pub out: &'a [u8],
