@@ -1,12 +1,19 @@
-//! Tests of the call that the program makes.
+//! Tests of the call that the program makes, some of them over native threads: of two that do their jobs at one time, of
+//! some whose results are told in the order of a script, and of a server whose requests they answer.
 #![tactic(auto)]
 
 #[cfg(test)]
 mod calls;
 #[cfg(test)]
+mod client_tests;
+#[cfg(test)]
 mod connection_tests;
 #[cfg(test)]
 mod fault_tests;
+#[cfg(test)]
+mod gate_tests;
+#[cfg(test)]
+mod held_gate;
 #[cfg(test)]
 mod job_tests;
 #[cfg(test)]
@@ -17,6 +24,8 @@ mod native_tests;
 mod net_tests;
 #[cfg(test)]
 mod nets;
+#[cfg(test)]
+mod order_tests;
 #[cfg(test)]
 mod serve_tests;
 #[cfg(test)]

@@ -55,7 +55,7 @@ impl Bell for Mute {
 
 /// A clock that stands still.
 #[derive(Clone, Copy)]
-struct Still;
+pub(crate) struct Still;
 
 impl Clock for Still {
     ghost reading = { λ _. 0 };

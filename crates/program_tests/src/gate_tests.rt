@@ -1,7 +1,10 @@
 //! Two jobs, each on a thread of its own, of which the one that comes first is held until the other is answered.
-use crate::calls::{Still, ends_well, writes};
-use crate::held::{EachStarts, HoldingGate, Signals, Start, Watched};
-use gv_io::MemorySink;
+ghost use Rattle.std.specs.Prelude.{◌≡◌, false};
+
+use crate::calls::{Row, called, holds_in};
+use crate::held_gate::{EachStarts, HoldingGate, Signals, Start, Watched};
+use crate::native_tests::Still;
+use gv_io::{MemorySink, MemorySource};
 use native_board::Bell;
 use native_pool::{
     Clock, Ear, Gate, Parts, PollEar, Spawner, ThreadWorld, WakerBell, WorkerTask, spawn_worker,
@@ -11,7 +14,7 @@ use std::sync::atomic::Ordering;
 use std::sync::{Arc, Wait};
 use std::test::Fail;
 use std::thread::Threads;
-use world::ListWorld;
+use world::{ListWorld, World};
 
 const TWO_ECHOES: &[u8] =
     b"native n 2\ndef main\na <- nspawn n echo 1\nb <- nspawn n echo 2\nx <- get b\ny <- get a\nprint y\nend\n";
@@ -36,8 +39,19 @@ fn push_recorded(bytes: &mut Vec<u8>, trace: &[u8]) -> Result<(), AllocError> {
 fn is_verified(alloc: Global, trace: &[u8], written: &[u8]) -> Result<bool, AllocError> {
     let mut bytes = Vec::new(alloc);
     push_recorded(&mut bytes, trace)?;
-    let mut native = ListWorld::new(alloc, Vec::new(alloc));
-    writes(alloc, "verify", bytes.as_slice(), &mut native, written)
+    let row = Row {
+        name: "",
+        words: "verify",
+        input: bytes.as_slice(),
+        piece: 4096,
+        failing: &[],
+        room: 2000,
+        err_room: 100,
+        status: 0,
+        out: written,
+        err: b"",
+    };
+    holds_in(alloc, &row, ListWorld::new(alloc, Vec::new(alloc)))
 }
 
 /// Whether this is the trace where the job of this number was held, and is verified.
@@ -51,6 +65,21 @@ fn is_trace_of(alloc: Global, held: u64, trace: &[u8]) -> Result<bool, AllocErro
         return Ok(false);
     }
     is_verified(alloc, trace, verified)
+}
+
+/// Calls over a world. Whether the call ends well.
+fn ends_well<W: World>(
+    alloc: Global,
+    native: &mut W,
+    out: &mut MemorySink,
+) -> Result<bool, AllocError>
+    requires { (W.meaning native.old).runs ≡ false }
+{
+    let bytes = Vec::from_slice(alloc, TWO_ECHOES)?;
+    let mut err = MemorySink::new(alloc, 100)?;
+    let mut input = MemorySource::new(bytes, 4096, Vec::new(alloc));
+    let status = called(alloc, "run --native=2", &mut input, out, &mut err, native);
+    Ok(status == Ok(0))
 }
 
 /// Calls over a world of these parts, whose answers are signalled. Whether the call ends well.
@@ -70,7 +99,7 @@ fn runs_over<
 ) -> Result<bool, AllocError> {
     let world = ThreadWorld::of_parts(alloc, rt, parts)?;
     let mut native = Watched { world, signals };
-    ends_well(alloc, "run --native=2", TWO_ECHOES, &mut native, out)
+    ends_well(alloc, &mut native, out)
 }
 
 /// Calls over a world of two threads that `start` makes, with a gate that signals. Whether the call ends well.
