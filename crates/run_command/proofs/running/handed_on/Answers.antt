@@ -1,4 +1,4 @@
-use Rattle.std.proofs.Common.{refl, sym, ◌∙◌}
+use Rattle.std.proofs.Common.{refl, sym, inl, ◌∙◌}
 use Rattle.run_command.proofs.Handing.{broken_kept}
 use Rattle.run_command.proofs.running.handed_on.Goals as goal
 
@@ -7,3 +7,9 @@ returns-then-is_broken_off-clause-hands g c = λ w m. broken_kept c.args.end _ (
 
 pub returns-in-Err-clause-hands : goal.returns-in-Err-clause-hands
 returns-in-Err-clause-hands g c = λ w m. absurd (w refl)
+
+pub returns-in-Ok-clause-end : goal.returns-in-Ok-clause-end
+returns-in-Ok-clause-end g c = inl refl
+
+pub returns-in-Ok-clause-failed : goal.returns-in-Ok-clause-failed
+returns-in-Ok-clause-failed g c = λ is. inl is
