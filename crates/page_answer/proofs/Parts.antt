@@ -36,3 +36,9 @@ last f all new s left bytes made is alone before =
 -- where there is no end, the bytes are one word
 pub alone : (left : List ℕ) → position_or_len is_end left ≡ length left → slice_split is_end left ≡ left ∷ []
 alone left all = slice_split_none is_end left (All-from_get_or (λ b. is_end b ≡ false) left 0 (λ i lt. fails_before_first is_end left i 0 (subst (λ n. i < n) (sym all) lt)))
+
+-- what was said of some words and bytes was said of those that are the same
+pub said_of : (says : ℕ → List (List ℕ) → List ℕ → List ℕ → List ℕ → Type 0) {status : ℕ} {words others : List (List ℕ)} {text other out first err front : List ℕ} →
+    says status words text out err → words ≡ others → text ≡ other → out ≡ first → err ≡ front → says status others other first front
+said_of says {status} {words} {others} {text} {other} {out} {first} {err} {front} so as_words as_text as_out as_err =
+    subst (λ w. says status w other first front) as_words (subst (λ t. says status words t first front) as_text (subst (λ o. says status words text o front) as_out (subst (λ e. says status words text out e) as_err so)))

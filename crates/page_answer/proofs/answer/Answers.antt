@@ -1,0 +1,6 @@
+use Rattle.std.proofs.Common.{rules}
+use Rattle.page_answer.proofs.Parts.{said_of}
+use Rattle.page_answer.proofs.answer.Goals as goal
+
+pub returns-clause-said : goal.returns-clause-said
+returns-clause-said g c = (_, c.in_ok-words.ensures, said_of g.P.Program.says c.run-status.ensures (search rules) (search rules) (search rules) (search rules))
