@@ -9,3 +9,5 @@ mod frames;
 mod held;
 #[cfg(test)]
 mod numbers;
+#[cfg(test)]
+mod timers;

@@ -2,7 +2,7 @@ use Rattle.std.proofs.Common.{ℕ, ◌+◌, ◌<◌, ◌*◌, ◌%◌, Contains,
 use Rattle.due_timers.specs.Heap.{timer}
 use Rattle.due_timers.specs.SeenTimers.{items_in}
 use Rattle.due_timers.proofs.Timing.{added_below}
-use Rattle.due_timers.proofs.tests.million_timers.Goals as goal
+use Rattle.hub_tests.proofs.timers.million_timers.Goals as goal
 
 pub add-requires-clause-absent : goal.add-requires-clause-absent
 add-requires-clause-absent g c = λ h. omega (arith, c.loop-i.invariant.2 c.loop-i.i h)

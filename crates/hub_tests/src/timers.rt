@@ -1,4 +1,5 @@
-use crate::Timers;
+//! A heap of many timers.
+use due_timers::Timers;
 use std::test::*;
 
 #[test]
