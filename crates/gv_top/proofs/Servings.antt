@@ -20,7 +20,7 @@ use Rattle.stream_server.specs.Serving.{Rests}
 use Rattle.wsgi_native.specs.Agreeing.{Agrees, HasEarned, Owner}
 use Rattle.wsgi_native.specs.Ends.{IsAtJob, IsOutOfJobs}
 use Rattle.wsgi_native.specs.JobApp.{job_app}
-use Rattle.wsgi_native.specs.Tied.{IsInOrder}
+use Rattle.wsgi_native.specs.Tied.{AreNumberedFrom, IsInOrder}
 use Rattle.serve_command.specs.declared.serving.Served.{Served}
 use Rattle.serve_command.specs.Jobs.{ServesJobsAt}
 use Rattle.serve_command.specs.Serving.{ServesAt, listening}
@@ -219,10 +219,10 @@ serves_after end asked limits w v out0 out1 h = record {
   out_of_jobs = λ vain. h.out_of_jobs (vain_before h.serves.port w v vain);
 }
 
-pub served_natively : (workers : ℕ) (end : Served) (asked : ℕ) (limits : Limits) (w : NetMeaning) (before v after : World) (out0 out1 : Option (List ℕ)) → after ≡ record v { runs = false } → IsInOrder v → v.workers ≡ workers
+pub served_natively : (workers : ℕ) (end : Served) (asked : ℕ) (limits : Limits) (w : NetMeaning) (before v after : World) (out0 out1 : Option (List ℕ)) → after ≡ record v { runs = false } → IsInOrder v → AreNumberedFrom 1 v.posts → v.workers ≡ workers
     → ServesJobsAt end asked limits w v out0 out1 → ServesNatively workers end asked limits w before after out0 out1
-served_natively workers end asked limits w before v after out0 out1 is order same h =
-    subst (λ (x : World). ServesNatively workers end asked limits w before x out0 out1) (sym is) (record { serves = serves_after end asked limits w v out0 out1 h; begun = inl (record { workers_are = same; posted = order.done }) })
+served_natively workers end asked limits w before v after out0 out1 is order numbered same h =
+    subst (λ (x : World). ServesNatively workers end asked limits w before x out0 out1) (sym is) (record { serves = serves_after end asked limits w v out0 out1 h; begun = inl (record { workers_are = same; numbered = numbered; posted = order.done }) })
 
 -- ---- what these answers serve with
 

@@ -9,6 +9,7 @@ use Rattle.stream_net.specs.Net.{NetMeaning}
 use Rattle.stream_server.specs.declared.limits.Limits.{Limits}
 use Rattle.world.specs.Outside.{WorldMeaning as World}
 use Rattle.world_rules.specs.Legal.{is_answered, is_posted}
+use Rattle.wsgi_native.specs.Tied.{AreNumberedFrom}
 use Rattle.serve_command.specs.declared.serving.Served.{Served}
 use Rattle.serve_command.specs.Jobs.{ServesJobsAt}
 use Rattle.serve_command.specs.Serving.{ServesAt}
@@ -20,9 +21,11 @@ use Rattle.gv_top.specs.Status.{verdict_line, verdict_of_server}
 abbrev pub limits_of : ServeOptions → Limits
 limits_of options = record { pool = options.pool; conns = options.conns; idle = options.idle }
 
--- so many native workers were begun, and each job that they answered was posted
+-- so many native workers were begun, they were posted jobs under the numbers from 1, in order, and each job that they
+-- answered was posted
 pub record HaveWorked (workers : ℕ) (w : World) : Type 0 where
   pub workers_are : w.workers ≡ workers
+  pub numbered : AreNumberedFrom 1 w.posts
   pub posted : (number : ℕ) → is_answered number w.answers ≡ true → is_posted number w.posts ≡ true
 
 -- It served with so many native workers for its jobs, each of which was posted before it was answered. Or they were not

@@ -3,12 +3,14 @@
 
 ghost use Rattle.std.specs.Prelude.{◌≡◌, ◌≤◌, List, ℕ, [], length, take, map, string_bytes};
 ghost use Rattle.command_words.specs.Words.{Word};
-ghost use Rattle.page_answer.specs.Page.{AreWords};
+ghost use Rattle.page_answer.specs.Page.{AreWords, first_of};
 ghost use Rattle.gvr_page.specs.Page.{IsSaid};
 
-use gv_io::{MOST_PIECE, MemorySink, MemorySource};
+mod page_source;
+
 use gv_top::offline;
-use page_answer::{Program, Said, answer};
+use page_answer::{PageSink, Program, Said, answer};
+use page_source::PageSource;
 use std::alloc::Global;
 use world::ScriptWorld;
 use wsgi_core::ShippedApp;
@@ -31,12 +33,16 @@ impl Program for Gvr {
         alloc: Global,
         words: &[String],
         text: Vec<u8>,
-        out: &mut MemorySink,
-        err: &mut MemorySink,
+        out: &mut PageSink,
+        err: &mut PageSink,
     ) -> u32 {
-        let mut input = MemorySource::new(text, MOST_PIECE, Vec::new(alloc));
+        let mut input = PageSource::new(alloc, text);
         let mut native = ScriptWorld::new(alloc, 0);
-        match offline(alloc, words, &mut input, out, err, &mut native, &ShippedApp) {
+        let status = offline(alloc, words, &mut input, out, err, &mut native, &ShippedApp);
+        // That a sink is full where a write failed is known of those that are looked at.
+        let _ = out.bytes();
+        let _ = err.bytes();
+        match status {
             Some(status) => u32::from(status),
             None => NO_SERVER,
         }
@@ -48,7 +54,7 @@ impl Program for Gvr {
 /// how many these are; what stands behind them may have changed too.
 ///
 /// The status is that of the program, and 256 where the words name a server. With 4, 5 and 7 `out` has a beginning of
-/// the program's output: with 5 `out` or `err` has no room for all of it, and with 7 memory ran out. Where that was
+/// the program's output: with 5 `out` or `err` is full, and with 7 memory ran out; 4 never comes. Where that was
 /// before the text was read, nothing is written, no line on `err` either.
 #[unsafe(no_mangle)]
 pub extern "C" fn gvr_answer(
@@ -60,7 +66,7 @@ pub extern "C" fn gvr_answer(
     said: &mut Said,
 ) -> u32
     ensures room { (said.new.out ≤ length out.new) × (said.new.err ≤ length err.new) }
-    ensures said { (all : List Word) × AreWords words.now all × IsSaid result all text.now (take said.new.out out.new) (take said.new.err err.new) }
+    ensures said { (all : List Word) × AreWords words.now all × IsSaid result all text.now (first_of said.new.out out.new) (first_of said.new.err err.new) }
 {
     match answer::<Gvr>(alloc, &Gvr, words, text, out, err) {
         Ok(answered) => {

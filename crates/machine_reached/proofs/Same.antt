@@ -24,6 +24,7 @@ Same c s = s.scenario ≡ c
 same-kept : (c : Scenario) → Keeps (Same c)
 same-kept c =
     record {
+      says = λ line s step e. e;
       adds = λ d s e. e;
       drops = λ test s e. e;
       settles = λ s e. e;

@@ -26,6 +26,7 @@ At moment s = s.moment ≡ moment
 at-kept : (moment : ℕ) → Keeps (At moment)
 at-kept moment =
     record {
+      says = λ line s step e. e;
       adds = λ d s e. e;
       drops = λ test s e. e;
       settles = λ s e. e;

@@ -61,6 +61,7 @@ posts-know posts answers g o job takes s k =
 
 pub knowing-kept : (posts : List PostedJob) (answers : List Answer) → Keeps (KnowsJobs posts answers)
 knowing-kept posts answers = record {
+  says = λ line s e k. record { posts_are = k.posts_are; arrived = k.arrived; no_other = k.no_other };
   adds = λ d s k. record { posts_are = k.posts_are; arrived = k.arrived; no_other = k.no_other };
   drops = λ test s k. record { posts_are = k.posts_are; arrived = k.arrived; no_other = k.no_other };
   settles = λ s k. record { posts_are = k.posts_are; arrived = k.arrived; no_other = k.no_other };

@@ -42,10 +42,10 @@ use Rattle.machine.specs.Objects.{with_object, object_at, name_of_object, is_shu
 use Rattle.machine.specs.Request.{typed, done, makes, starts_at, greenlet_value, start_of, is_new, has_start, Sending, sends, sends_all, kills, kills_standing, link_stands, links, is_link, put_result, releases, acquires, finishes, int_operand, list_operand, whom_operand, any_greenlet, on_host, sets_parent, raw_greenlet, plain_greenlet, plain_greenlet_list, fault_operand, performs, follows}
 use Rattle.gv_values.specs.Job.{job_of}
 use Rattle.machine.specs.Moves.{timeout_item, does, move, look}
-use Rattle.machine.specs.Deliveries.{waiting_of, without_wait, interrupts, late, calls, called, delivers, since_of_wake, without_offer_by}
+use Rattle.machine.specs.Deliveries.{waiting_of, without_wait, interrupts, late, calls, called, deliver, delivers, since_of_wake, without_item, without_offer_by}
 use Rattle.machine.specs.declared.limits.TheConstants.{MOST_KILLS, MOST_LINKS}
 
--- what no step changes but an item that comes or goes, a settling or a job
+-- what no step changes but a line, an item that comes or goes, a settling or a job
 pub record Core : Type 0 where
   pub scenario : Scenario
   pub items : List Item
@@ -54,17 +54,32 @@ pub record Core : Type 0 where
   pub moment : ℕ
   pub jobs : List JobState
   pub posts : List Post
+  pub lines : List Line
 
 abbrev pub core : State → Core
-core s = record { scenario = s.scenario; items = s.items; next_ready = s.next_ready; next_since = s.next_since; moment = s.moment; jobs = s.jobs; posts = s.posts }
+core s = record { scenario = s.scenario; items = s.items; next_ready = s.next_ready; next_since = s.next_since; moment = s.moment; jobs = s.jobs; posts = s.posts; lines = s.lines }
+
+-- a line that a move or a delivery says; job lines come with their posts, and the others between the turns
+abbrev pub is_step : Line → Bool
+is_step (Line.Job j g job) = false
+is_step (Line.Turn n a) = false
+is_step (Line.Block x) = false
+is_step (Line.Stop cause turns moves) = false
+is_step line = true
 
 -- what a law needs to stay so at every step
 pub record Keeps (P : State → Type 0) : Type 0 where
+  pub says : (line : Line) (s : State) → is_step line ≡ true → P s → P (say line s)
   pub adds : (d : Delivery) (s : State) → P s → P (add_item d s)
   pub drops : (test : Delivery → Bool) (s : State) → P s → P (drop_items test s)
   pub settles : (s : State) → P s → P (settle s)
   pub posts : (g o : ℕ) (job : Job) (takes : ℕ) (s : State) → P s → P (posted g o job takes s)
   pub alike : (s t : State) → core t ≡ core s → P s → P t
+
+-- whichever way the test goes
+either : {A : Type 0} (P : A → Type 0) (b : Bool) {x y : A} → P x → P y → P (if b then x else y)
+either P true u v = u
+either P false u v = v
 
 -- it is so where the hub stands
 unfoldable pub Stands : (State → Type 0) → Next → Type 0
@@ -79,16 +94,13 @@ Comes P (Performed.Parks s) = P s
 Comes P (Performed.Lands k o s) = P s
 Comes P (Performed.Stops cause s) = P s
 
-say-keeps : (P : State → Type 0) (keeps : Keeps P) (line : Line) (s : State) → P s → P (say line s)
-say-keeps P keeps line s u = keeps.alike s (say line s) refl u
-
 -- ---- ends and landings
 
 ended-keeps : (P : State → Type 0) (keeps : Keeps P) (g : ℕ) (o : Outcome) (s : State) → P s → P (ended g o s)
 ended-keeps P keeps g o s u =
     let a = with_phase g (Phase.Done o) (say (Line.End g o) s) in
     let d = drop_items (goes_at_end g o) a in
-    keeps.settles _ (keeps.alike d _ refl (keeps.drops (goes_at_end g o) a (keeps.alike s a refl u)))
+    keeps.settles _ (keeps.alike d _ refl (keeps.drops (goes_at_end g o) a (keeps.alike (say (Line.End g o) s) a refl (keeps.says (Line.End g o) s refl u))))
 
 -- a landing keeps it
 unfoldable pub Lets : (State → Type 0) → Landing → Type 0
@@ -113,7 +125,7 @@ goes_on-keeps P keeps up g (Unwound.Out left how) s l u =
 
 pub starts-keeps : (P : State → Type 0) (keeps : Keeps P) (up : Landing) (g : ℕ) (args : List Value) (s : State) → Lets P up → P s → Stands P (starts up g args s)
 starts-keeps P keeps up g args s l u =
-    goes_on-keeps P keeps up g _ (say (Line.Start g (function_of (greenlet g s).function s).name) s) l (say-keeps P keeps _ s u)
+    goes_on-keeps P keeps up g _ (say (Line.Start g (function_of (greenlet g s).function s).name) s) l (keeps.says _ s refl u)
 
 land-keeps : (P : State → Type 0) (keeps : Keeps P) (f : ℕ) → Lets P (land f)
 unfolding Stands Lets
@@ -129,7 +141,7 @@ land-keeps P keeps (suc f) g o s u = by (greenlet g s).phase o (land-keeps P kee
       ]
     ])
     by (Phase.Done out) o l = l (greenlet g s).parent (kept o) s u
-    by (Phase.Live frame) o l = goes_on-keeps P keeps (land f) g _ (say (Line.Into g o) s) l (say-keeps P keeps _ s u)
+    by (Phase.Live frame) o l = goes_on-keeps P keeps (land f) g _ (say (Line.Into g o) s) l (keeps.says _ s refl u)
     by (Phase.New args) (Outcome.Value v) l = starts-keeps P keeps (land f) g (v ∷ []) s l u
     by (Phase.New args) (Outcome.Fault k) l = after_end-keeps P keeps (land f) g (Outcome.Fault k) s l u
 
@@ -143,15 +155,11 @@ answered-keeps P keeps g o s u = goes_on-keeps P keeps lands g _ s (lands-keeps 
 -- ---- waits
 
 drawn-keeps : (P : State → Type 0) (keeps : Keeps P) (w : Waiting) (s : State) → P s → P (drawn w s)
-drawn-keeps P keeps w s u = by (draws w)
-  where
-    by : (b : Bool) → P (if b then record s { timeouts = s.timeouts + 1 } else s)
-    by true = keeps.alike s _ refl u
-    by false = u
+drawn-keeps P keeps w s u = either P (draws w) (keeps.alike s _ refl u) u
 
 parked-keeps : (P : State → Type 0) (keeps : Keeps P) (g : ℕ) (word : Awaited) (w : Waiting) (deadline : Option ℕ) (s : State) → P s → P (parked g word w deadline s)
-parked-keeps P keeps g word w None s u = keeps.adds (Delivery.Wake g w) _ (say-keeps P keeps _ s u)
-parked-keeps P keeps g word w (Some deadline) s u = keeps.adds _ _ (drawn-keeps P keeps w _ (keeps.adds (Delivery.Wake g w) _ (say-keeps P keeps _ s u)))
+parked-keeps P keeps g word w None s u = keeps.adds (Delivery.Wake g w) _ (keeps.says _ s refl u)
+parked-keeps P keeps g word w (Some deadline) s u = keeps.adds _ _ (drawn-keeps P keeps w _ (keeps.adds (Delivery.Wake g w) _ (keeps.says _ s refl u)))
 
 waits-keeps : (P : State → Type 0) (keeps : Keeps P) (g : ℕ) (word : Awaited) (w : Waiting) (how : Wait) (s : State) → P s → Comes P (waits g word w how s)
 unfolding Comes
@@ -166,12 +174,7 @@ member-keeps P keeps o f args s u =
 
 map_ends-keeps : (P : State → Type 0) (keeps : Keeps P) (g o : ℕ) (made : List ℕ) (s : State) → P s → Comes P (map_ends g o made s)
 unfolding Comes
-map_ends-keeps P keeps g o made s u = by (newcomer_completes s g (Waiting.MapEnd o made))
-  where
-    by : (b : Bool) → Comes P (if b then Performed.Answers (gathered (map (outcome_of_greenlet s) made) []) s
-        else Performed.Parks (parked g (Awaited.Map (name_of_object o s)) (Waiting.MapEnd o made) None s))
-    by true = u
-    by false = parked-keeps P keeps g _ _ None s u
+map_ends-keeps P keeps g o made s u = either (Comes P) (newcomer_completes s g (Waiting.MapEnd o made)) u (parked-keeps P keeps g _ _ None s u)
 
 maps-keeps : (P : State → Type 0) (keeps : Keeps P) (xs : List Scalar) (g o f : ℕ) (made : List ℕ) (s : State) → P s → Comes P (maps xs g o f made s)
 unfolding Comes
@@ -195,43 +198,23 @@ maps-keeps P keeps (x ∷ xs) g o f made s u =
 map_goes_on-keeps : (P : State → Type 0) (keeps : Keeps P) (xs : List Scalar) (g o f : ℕ) (made : List ℕ) (s : State) → P s → Comes P (map_goes_on xs g o f made s)
 unfolding Comes
 map_goes_on-keeps P keeps [] g o f made s u = map_ends-keeps P keeps g o made s u
-map_goes_on-keeps P keeps (x ∷ xs) g o f made s u = by (has_greenlet_left s)
-  where
-    by : (b : Bool) → Comes P (if b then maps xs g o f (made ++ length s.greenlets ∷ []) (add_member o f (value_of_scalar x ∷ []) s) else Performed.Stops StopCause.NoGreenlets s)
-    by true = maps-keeps P keeps xs g o f _ (add_member o f (value_of_scalar x ∷ []) s) (member-keeps P keeps o f _ s u)
-    by false = u
+map_goes_on-keeps P keeps (x ∷ xs) g o f made s u = either (Comes P) (has_greenlet_left s) (maps-keeps P keeps xs g o f _ (add_member o f (value_of_scalar x ∷ []) s) (member-keeps P keeps o f _ s u)) u
 
 made_member-keeps : (P : State → Type 0) (keeps : Keeps P) (o f : ℕ) (args : List Value) (s : State) → P s → Comes P (made_member o f args s)
 unfolding Comes
-made_member-keeps P keeps o f args s u = by (has_greenlet_left s)
-  where
-    by : (b : Bool) → Comes P (if b then Performed.Answers (Outcome.Value (Value.Greenlet (length s.greenlets))) (add_member o f args s) else Performed.Stops StopCause.NoGreenlets s)
-    by true = member-keeps P keeps o f args s u
-    by false = u
+made_member-keeps P keeps o f args s u = either (Comes P) (has_greenlet_left s) (member-keeps P keeps o f args s u) u
 
 puts-keeps : (P : State → Type 0) (keeps : Keeps P) (o : ℕ) (v : Value) (x : Object) (s : State) → P s → Comes P (puts_item o v x s)
 unfolding Comes
-puts-keeps P keeps o v x s u = by (is_shut x)
-  where
-    by : (b : Bool) → Comes P (if b then raises FaultKind.ShutDown s else Performed.Answers nothing (with_object o (with_item v x) s))
-    by true = u
-    by false = keeps.alike s _ refl u
+puts-keeps P keeps o v x s u = either (Comes P) (is_shut x) u (keeps.alike s _ refl u)
 
 takes-keeps : (P : State → Type 0) (keeps : Keeps P) (o before : ℕ) (x : Object) (s : State) → P s → Comes P (takes_item o before x s)
 unfolding Comes
-takes-keeps P keeps o before x s u = by (is_left before x)
-  where
-    by : (b : Bool) → Comes P (if b then Performed.Answers (Outcome.Value (item_of x)) (with_object o (with_item_taken x) s) else raises FaultKind.ShutDown s)
-    by true = keeps.alike s _ refl u
-    by false = u
+takes-keeps P keeps o before x s u = either (Comes P) (is_left before x) (keeps.alike s _ refl u) u
 
 peeks-keeps : (P : State → Type 0) (keeps : Keeps P) (o before : ℕ) (x : Object) (s : State) → P s → Comes P (peeks_item before x s)
 unfolding Comes
-peeks-keeps P keeps o before x s u = by (is_left before x)
-  where
-    by : (b : Bool) → Comes P (if b then Performed.Answers (Outcome.Value (item_of x)) s else raises FaultKind.ShutDown s)
-    by true = u
-    by false = u
+peeks-keeps P keeps o before x s u = either (Comes P) (is_left before x) u u
 
 offered-keeps : (P : State → Type 0) (keeps : Keeps P) (g o : ℕ) (v : Value) (s : State) → P s → P (offered g o v s)
 offered-keeps P keeps g o v s u =
@@ -252,11 +235,7 @@ completes-keeps P keeps g since (Waiting.TakeOffer o) s u = keeps.alike s _ refl
 completes-keeps P keeps g since w s u = u
 
 comes-keeps : (P : State → Type 0) (keeps : Keeps P) (g : ℕ) (word : Awaited) (w : Waiting) (how : Wait) (s : State) → P s → Comes P (comes g word w how s)
-comes-keeps P keeps g word w how s u = by (newcomer_completes s g w)
-  where
-    by : (b : Bool) → Comes P (if b then completes g s.next_since w s else waits g word w how s)
-    by true = completes-keeps P keeps g s.next_since w s u
-    by false = waits-keeps P keeps g word w how s u
+comes-keeps P keeps g word w how s u = either (Comes P) (newcomer_completes s g w) (completes-keeps P keeps g s.next_since w s u) (waits-keeps P keeps g word w how s u)
 
 -- ---- requests
 
@@ -267,27 +246,15 @@ typed-keeps P keeps (Some y) s go u f = f y
 
 on_host-keeps : (P : State → Type 0) (keeps : Keeps P) (g k : ℕ) (s : State) (go : Performed) → P s → Comes P go → Comes P (on_host g k s go)
 unfolding Comes
-on_host-keeps P keeps g k s go u f = by (host_of s g == host_of s k)
-  where
-    by : (b : Bool) → Comes P (if b then go else raises FaultKind.InvalidSwitch s)
-    by true = f
-    by false = u
+on_host-keeps P keeps g k s go u f = either (Comes P) (host_of s g == host_of s k) f u
 
 makes-keeps : (P : State → Type 0) (keeps : Keeps P) (raw : Bool) (parent f : ℕ) (args : List Value) (more : ℕ → State → State) (s : State) → P s →
     ((k : ℕ) (t : State) → P t → P (more k t)) → Comes P (makes raw parent f args more s)
 unfolding Comes
-makes-keeps P keeps raw parent f args more s u m = by (has_greenlet_left s)
-  where
-    by : (b : Bool) → Comes P (if b then Performed.Answers (greenlet_value (length s.greenlets)) (more (length s.greenlets) (add_greenlet raw parent f args s)) else Performed.Stops StopCause.NoGreenlets s)
-    by true = m (length s.greenlets) (add_greenlet raw parent f args s) (keeps.alike s _ refl u)
-    by false = u
+makes-keeps P keeps raw parent f args more s u m = either (Comes P) (has_greenlet_left s) (m (length s.greenlets) (add_greenlet raw parent f args s) (keeps.alike s _ refl u)) u
 
 start_of-keeps : (P : State → Type 0) (keeps : Keeps P) (k : ℕ) (s : State) → P s → P (start_of k s)
-start_of-keeps P keeps k s u = by (is_new (greenlet k s).phase && not (has_start k s))
-  where
-    by : (b : Bool) → P (if b then starts_at None k s else s)
-    by true = keeps.adds _ s u
-    by false = u
+start_of-keeps P keeps k s u = either P (is_new (greenlet k s).phase && not (has_start k s)) (keeps.adds _ s u) u
 
 -- it is so after kills
 Sends : (State → Type 0) → Sending → Type 0
@@ -304,7 +271,7 @@ sends-keeps P keeps f g s u = by (greenlet g s).phase (nat_lt (kills_standing s)
       | Phase.Live frame ↦ if b then Sending.Sent (add_item (Delivery.Kill g f) s) else Sending.TooMany s
     ])
     by (Phase.Done o) b = u
-    by (Phase.New args) b = ended-keeps P keeps g (kept (Outcome.Fault f)) _ (say-keeps P keeps _ s u)
+    by (Phase.New args) b = ended-keeps P keeps g (kept (Outcome.Fault f)) _ (keeps.says _ s refl u)
     by (Phase.Live frame) true = keeps.adds _ s u
     by (Phase.Live frame) false = u
 
@@ -343,16 +310,8 @@ links-keeps P keeps k kind f s u = by (nat_lt s.links MOST_LINKS) (link_stands k
 
 releases-keeps : (P : State → Type 0) (keeps : Keeps P) (g o : ℕ) (x : Object) (s : State) → P s → Comes P (releases g o x s)
 unfolding Comes
-releases-keeps P keeps g o (Object.Semaphore counter bound) s u = by (at_bound counter bound)
-  where
-    by : (b : Bool) → Comes P (if b then raises FaultKind.ValueError s else done (with_object o (Object.Semaphore (counter + 1) bound) s))
-    by true = u
-    by false = keeps.alike s _ refl u
-releases-keeps P keeps g o (Object.Lock (Some j) depth) s u = by (g == j)
-  where
-    by : (b : Bool) → Comes P (if b then done (with_object o (Object.Lock (after_release g (depth - 1)) (depth - 1)) s) else raises FaultKind.RuntimeError s)
-    by true = keeps.alike s _ refl u
-    by false = u
+releases-keeps P keeps g o (Object.Semaphore counter bound) s u = either (Comes P) (at_bound counter bound) u (keeps.alike s _ refl u)
+releases-keeps P keeps g o (Object.Lock (Some j) depth) s u = either (Comes P) (g == j) (keeps.alike s _ refl u) u
 releases-keeps P keeps g o (Object.Lock None depth) s u = u
 releases-keeps P keeps g o (Object.Event flag sets) s u = u
 releases-keeps P keeps g o (Object.Result x) s u = u
@@ -384,7 +343,7 @@ sets_parent-keeps P keeps g child parent s u =
 
 pub performs-keeps : (P : State → Type 0) (keeps : Keeps P) (r : Request) (g : ℕ) (s : State) → P s → Comes P (performs r g s)
 unfolding performs Comes
-performs-keeps P keeps (Request.Print v) g s u = say-keeps P keeps (Line.Print g v) s u
+performs-keeps P keeps (Request.Print v) g s u = keeps.says (Line.Print g v) s refl u
 performs-keeps P keeps (Request.Spawn f args) g s u = makes-keeps P keeps false 0 f args (starts_at None) s u (λ k t w. keeps.adds _ t w)
 performs-keeps P keeps (Request.SpawnLater ms f args) g s u = makes-keeps P keeps false 0 f args (starts_at (Some (s.moment + ms))) s u (λ k t w. keeps.adds _ t w)
 performs-keeps P keeps (Request.New f args) g s u = makes-keeps P keeps false 0 f args (λ h t. t) s u (λ k t w. w)
@@ -413,11 +372,7 @@ performs-keeps P keeps (Request.ResultGet o how) g s u = comes-keeps P keeps g (
 performs-keeps P keeps (Request.ResultWait o how) g s u = comes-keeps P keeps g (Awaited.ResultWait (name_of_object o s)) (Waiting.ResultWait o) how s u
 performs-keeps P keeps (Request.Acquire o how) g s u = comes-keeps P keeps g (Awaited.Acquire (name_of_object o s)) (acquires o (object_at o s)) how s u
 performs-keeps P keeps (Request.Release o) g s u = releases-keeps P keeps g o (object_at o s) s u
-performs-keeps P keeps (Request.QueuePut o v how) g s u = by (takes_value (object_at o s) v)
-  where
-    by : (b : Bool) → Comes P (if b then comes g (Awaited.QueuePut (name_of_object o s)) (Waiting.Put o v) how s else raises FaultKind.TypeError s)
-    by true = comes-keeps P keeps g (Awaited.QueuePut (name_of_object o s)) (Waiting.Put o v) how s u
-    by false = u
+performs-keeps P keeps (Request.QueuePut o v how) g s u = either (Comes P) (takes_value (object_at o s) v) (comes-keeps P keeps g (Awaited.QueuePut (name_of_object o s)) (Waiting.Put o v) how s u) u
 performs-keeps P keeps (Request.QueueGet o how) g s u = comes-keeps P keeps g (Awaited.QueueGet (name_of_object o s)) (Waiting.Take o) how s u
 performs-keeps P keeps (Request.QueuePeek o how) g s u = comes-keeps P keeps g (Awaited.QueuePeek (name_of_object o s)) (Waiting.Peek o) how s u
 performs-keeps P keeps (Request.QueueDone o) g s u = finishes-keeps P keeps o (object_at o s) s u
@@ -480,7 +435,7 @@ interrupts-keeps P keeps g f s u =
     let r = without_offer_by (since_of_wake g s.items) s in
     let t = say (Line.Throw g f) (without_wait g r) in
     answered-keeps P keeps g (Outcome.Fault f) (settle t)
-    (keeps.settles t (say-keeps P keeps (Line.Throw g f) (without_wait g r) (keeps.drops (is_wait_of g) r (by (since_of_wake g s.items)))))
+    (keeps.settles t (keeps.says (Line.Throw g f) (without_wait g r) refl (keeps.drops (is_wait_of g) r (by (since_of_wake g s.items)))))
   where
     by : (since : Option ℕ) → P (without_offer_by since s)
     by None = u
@@ -491,7 +446,7 @@ unfolding Stands
 late-keeps P keeps g k None s u = u
 late-keeps P keeps g k (Some w) s u =
     let t = say (Line.Resume g Resumed.Late) s in
-    answered-keeps P keeps g _ _ (keeps.settles _ (keeps.drops (is_wait_of g) t (say-keeps P keeps _ s u)))
+    answered-keeps P keeps g _ _ (keeps.settles _ (keeps.drops (is_wait_of g) t (keeps.says _ s refl u)))
 
 calls-keeps : (P : State → Type 0) (keeps : Keeps P) (k g f : ℕ) (s : State) → P s → Stands P (calls k g f s)
 unfolding Stands
@@ -502,13 +457,15 @@ calls-keeps P keeps k g f s u = by (has_greenlet_left s)
         else Next.Over StopCause.NoGreenlets s)
     by true =
         let t = add_greenlet false 0 f (Value.Greenlet g ∷ []) (say (Line.Link k g (LinkCall.Greenlet (length s.greenlets))) s) in
-        starts-keeps P keeps lands (length s.greenlets) (Value.Greenlet g ∷ []) t (lands-keeps P keeps) (keeps.alike s t refl u)
+        let line = Line.Link k g (LinkCall.Greenlet (length s.greenlets)) in
+        starts-keeps P keeps lands (length s.greenlets) (Value.Greenlet g ∷ []) t (lands-keeps P keeps) (keeps.alike (say line s) t refl (keeps.says line s refl u))
     by false = u
 
 called-keeps : (P : State → Type 0) (keeps : Keeps P) (k g : ℕ) (kind : LinkKind) (f : ℕ) (s : State) → P s → Stands P (called k g kind f s)
 unfolding Stands
-called-keeps P keeps k g (LinkKind.Mark x) f s u = keeps.settles _ (say-keeps P keeps _ s u)
-called-keeps P keeps k g (LinkKind.Set o) f s u = keeps.settles _ (keeps.alike s _ refl u)
+called-keeps P keeps k g (LinkKind.Mark x) f s u = keeps.settles _ (keeps.says _ s refl u)
+called-keeps P keeps k g (LinkKind.Set o) f s u =
+    let t = say (Line.Link k g (LinkCall.Set (name_of_object o s))) s in keeps.settles _ (keeps.alike t _ refl (keeps.says _ s refl u))
 called-keeps P keeps k g LinkKind.Any f s u = calls-keeps P keeps k g f s u
 called-keeps P keeps k g LinkKind.Value f s u = calls-keeps P keeps k g f s u
 called-keeps P keeps k g LinkKind.Fault f s u = calls-keeps P keeps k g f s u
@@ -517,8 +474,12 @@ pub delivers-keeps : (P : State → Type 0) (keeps : Keeps P) (since : ℕ) (d :
 delivers-keeps P keeps since (Delivery.Start g deadline) s u = starts-keeps P keeps lands g _ s (lands-keeps P keeps) u
 delivers-keeps P keeps since (Delivery.Wake g w) s u =
     let t = say (Line.Resume g Resumed.Wake) s in
-    follows-keeps P keeps g _ (completes-keeps P keeps g since w _ (keeps.drops (is_wait_of g) t (say-keeps P keeps _ s u)))
+    follows-keeps P keeps g _ (completes-keeps P keeps g since w _ (keeps.drops (is_wait_of g) t (keeps.says _ s refl u)))
 delivers-keeps P keeps since (Delivery.Late g deadline k) s u = late-keeps P keeps g k (waiting_of g s.items) s u
 delivers-keeps P keeps since (Delivery.Timeout g k deadline) s u = interrupts-keeps P keeps g (FaultKind.Timeout k) s u
 delivers-keeps P keeps since (Delivery.Kill g f) s u = interrupts-keeps P keeps g f s u
 delivers-keeps P keeps since (Delivery.Link k g kind f) s u = called-keeps P keeps k g kind f s u
+
+pub deliver-keeps : (P : State → Type 0) (keeps : Keeps P) (i : Item) (s : State) → P (without_item i s) → Stands P (deliver i s)
+unfolding deliver
+deliver-keeps P keeps i s u = delivers-keeps P keeps i.since i.delivery (without_item i s) u

@@ -183,6 +183,7 @@ settles-under mark n s u =
 -- so is what a step does
 pub under-kept : (mark n : ℕ) → Keeps (Under mark n)
 under-kept mark n = record {
+  says = λ line s e u. record { ascends = u.ascends; few = u.few; ready = u.ready };
   adds = adds-under mark n;
   drops = drops-under mark n;
   settles = settles-under mark n;

@@ -2,6 +2,8 @@
 use Rattle.std.proofs.Common.{◌≡◌, ◌≢◌, ℕ, ◌+◌, ◌<◌, ◌≤◌, max, Bool, true, false, List, [], ◌∷◌, ◌++◌, length, map, get_or, set, Option, refl, sym, ap, ◌∙◌, subst, arith, slice_set}
 use Rattle.gv_values.specs.Counts.{HasRisen}
 use Rattle.std.proofs.lemmas.List.{length-map, get_or-map, map-append}
+use Rattle.stream_net.specs.Accounts.{account_meaning}
+use Rattle.stream_net.specs.declared.account.Account.{Account}
 use Rattle.stream_net.specs.Net.{Connection, Changes, connection_at, absent_connection, live_count, IsNew}
 use Rattle.stream_net.specs.declared.net.Ports.{Ports}
 use Rattle.stream_net.specs.declared.net.ReadEnd.{ReadEnd}
@@ -16,6 +18,10 @@ use Rattle.stream_net.proofs.MemoryLemmas.{map_set}
 use Rattle.stream_net.proofs.Lists.{live_kept, live_closed, live_more_one}
 use Rattle.mio_net.specs.declared.endpoint.Endpoint.{Endpoint}
 use Rattle.mio_net.specs.Endpoints.{endpoint_meaning, meaning_by}
+
+-- what an account means beside the bytes that were noted
+pub with_bytes : (a : Account) (read noted written sent : Option (List ℕ)) (c : Connection) → read ≡ noted → written ≡ sent → account_meaning a noted sent ≡ c → account_meaning a read written ≡ c
+with_bytes a read noted written sent c came went is = ap (λ (r : Option (List ℕ)). account_meaning a r written) came ∙ ap (λ (w : Option (List ℕ)). account_meaning a noted w) went ∙ is
 
 module _ (endpoints : List Endpoint) (k : ℕ) (old new : Endpoint) (within : k < length (map endpoint_meaning endpoints)) (is : old ≡ get_or endpoints k old) where
   in_endpoints : k < length endpoints

@@ -1,13 +1,14 @@
 //! A connection of the system.
-ghost use Rattle.std.specs.Prelude.{◌≡◌, ◌≢◌, ◌<◌, ◌≤◌, map, ℕ, List, length};
+ghost use Rattle.std.specs.Prelude.{◌≡◌, ◌≢◌, ◌<◌, ◌≤◌, map, ℕ, List, length, Some};
 ghost use Rattle.gv_values.specs.Counts.{HasRisen};
 ghost use Rattle.mio_net.specs.Endpoints.{endpoint_meaning};
+ghost use Rattle.stream_net.specs.Accounts.{read_after};
 ghost use Rattle.stream_net.specs.Net.{closed_at, held_as};
 ghost use Rattle.stream_net.specs.Reads.{after_read};
 ghost use Rattle.stream_net.specs.Waits.{named, woken, woken_if};
 ghost use Rattle.stream_net.specs.Writes.{after_write};
 
-use crate::sockets_edge::{Told, read_stream, write_stream};
+use crate::sockets_edge::{Told, Wire, read_stream, write_stream};
 use mio::net::TcpStream;
 use stream_net::{Account, ReadEnd, Ready, WriteEnd};
 
@@ -17,7 +18,7 @@ pub struct Endpoint {
     /// What is kept of it.
     pub account: Account,
     /// Its stream.
-    pub stream: Option<TcpStream>,
+    pub wire: Wire,
     /// Whether the last read took all that was there, and no wait has named the connection since.
     pub is_drained: bool,
     /// Whether a wait told of the end of its input, or of a fault.
@@ -33,6 +34,20 @@ fn is_short(end: ReadEnd, room: usize) -> bool {
     }
 }
 
+/// Reads what came, unless all of it was read.
+fn read_unless(is_drained: bool, wire: &mut Wire, buf: &mut [u8]) -> ReadEnd
+    requires { 0 < length buf.old }
+    ensures came { Some wire.new.came.bytes ≡ read_after result buf.new (Some wire.old.came.bytes) }
+    ensures went { wire.new.went ≡ wire.old.went }
+    ensures some { (n : ℕ) → result ≡ ReadEnd.Got n → 0 < n }
+    ensures fits { (n : ℕ) → result ≡ ReadEnd.Got n → n ≤ length buf.new }
+{
+    if is_drained {
+        return ReadEnd::WouldBlock;
+    }
+    read_stream(wire, buf)
+}
+
 /// Reads what came. A read that brings less than it has room for has taken all that was there (epoll(7)), and what comes
 /// later is told of by a wait: the system isn't asked before. An end that was told of is told of once, so it is asked for.
 #[tactic(auto, unfolding(gv_io::specs::Streams::appended))]
@@ -45,11 +60,7 @@ pub fn read_endpoint(endpoint: &mut Endpoint, moment: u64, buf: &mut [u8]) -> Re
     ensures some { (n : ℕ) → result ≡ ReadEnd.Got n → 0 < n }
     ensures fits { (n : ℕ) → result ≡ ReadEnd.Got n → n ≤ length buf.new }
 {
-    let end = if endpoint.is_drained {
-        ReadEnd::WouldBlock
-    } else {
-        read_stream(&endpoint.stream, buf)
-    };
+    let end = read_unless(endpoint.is_drained, &mut endpoint.wire, buf);
     endpoint.is_drained = !endpoint.ends && is_short(end, buf.len());
     endpoint.account.note_read(end, moment);
     end
@@ -66,7 +77,7 @@ pub fn write_endpoint(endpoint: &mut Endpoint, moment: u64, bytes: &[u8]) -> Wri
     ensures some { (n : ℕ) → result ≡ WriteEnd.Took n → 0 < n }
     ensures fits { (n : ℕ) → result ≡ WriteEnd.Took n → n ≤ length bytes.now }
 {
-    let end = write_stream(&endpoint.stream, bytes);
+    let end = write_stream(&mut endpoint.wire, bytes);
     endpoint.account.note_write(end, moment);
     end
 }
@@ -76,7 +87,7 @@ pub fn close_endpoint(endpoint: &mut Endpoint, moment: u64) -> Option<TcpStream>
     ensures { endpoint_meaning endpoint.new ≡ closed_at moment (endpoint_meaning endpoint.old) }
 {
     endpoint.account.note_close(moment);
-    endpoint.stream.take()
+    endpoint.wire.take()
 }
 
 /// Holds it, or releases it.

@@ -1,7 +1,7 @@
 //! The edge to the system's listener, poll and clock: the net over them.
 //!
 //! Trusted: what is ready, who is accepted, and that a moment is the time that has passed. The clauses say what each
-//! call keeps and counts of the connections, and nothing of which bytes come or go.
+//! call keeps and counts of the connections, and which bytes came and went.
 ghost use Rattle.std.specs.Prelude.{◌≡◌, ◌<◌, ◌≤◌, ◌^◌, length, map, false, IfOk};
 ghost use Rattle.mio_net.specs.Endpoints.{endpoint_meaning};
 ghost use Rattle.stream_net.specs.Net.{live_count};
@@ -10,7 +10,7 @@ use crate::endpoint::{
     Endpoint, close_endpoint, hold_endpoint, name_endpoint, read_endpoint, write_endpoint,
 };
 use crate::linger_edge::Lingering;
-use crate::sockets_edge::{LISTENER, Taken, Told, next_stream, poll_into};
+use crate::sockets_edge::{LISTENER, Taken, Told, Wire, next_stream, poll_into};
 use gv_io::{Failed, one_more};
 use mio::net::TcpListener;
 use mio::{Events, Interest, Poll};
@@ -266,7 +266,7 @@ impl<R: std::net::Net + Clock + Drop> Net for MioNet<R> {
                 self.moment = reading(&self.rt, &self.start, self.moment);
                 self.endpoints.push_reserved(Endpoint {
                     account: Account::new(self.moment),
-                    stream: Some(stream),
+                    wire: Wire::new(stream),
                     is_drained: false,
                     ends: false,
                 });

@@ -1,9 +1,12 @@
 //! The edge to the system's sockets: what is asked of them.
 //!
-//! Trusted: which bytes come and go, who is accepted, and what a poll tells. The clauses say only how many bytes an
-//! answer counts.
-ghost use Rattle.std.specs.Prelude.{◌≡◌, ◌≢◌, ◌<◌, ◌≤◌, ℕ, length};
+//! Trusted: that a stream gives and is given the bytes that the two calls on it note, who is accepted, and what a poll
+//! tells.
+ghost use Rattle.std.specs.Prelude.{◌≡◌, ◌≢◌, ◌<◌, ◌≤◌, ℕ, [], length, Some};
+ghost use Rattle.stream_net.specs.Accounts.{read_after};
+ghost use Rattle.stream_net.specs.Taken.{written_after};
 
+use crate::tape::{Piece, Tape};
 use gv_io::Failed;
 use mio::net::{TcpListener, TcpStream};
 use mio::{Events, Interest, Poll, Token};
@@ -40,8 +43,70 @@ pub enum Taken {
     Failed,
 }
 
+/// A stream, until it is given up, with the bytes that it gave and those that were given to it.
+#[derive(Drop)]
+pub struct Wire {
+    stream: Option<TcpStream>,
+    came: Tape,
+    went: Tape,
+}
+
+impl Wire {
+    /// Of a stream that was just accepted.
+    pub fn new(stream: TcpStream) -> Wire
+        ensures { (result.came.bytes ≡ []) × (result.went.bytes ≡ []) }
+    {
+        Wire {
+            stream: Some(stream),
+            came: Tape::none(),
+            went: Tape::none(),
+        }
+    }
+
+    /// Gives the stream up.
+    pub fn take(&mut self) -> Option<TcpStream>
+        ensures { (self.new.came ≡ self.old.came) × (self.new.went ≡ self.old.went) }
+    {
+        self.stream.take()
+    }
+}
+
+/// Reads what came, and notes it.
+#[tactic(auto, unfolding(gv_io::specs::Streams::appended))]
+pub fn read_stream(wire: &mut Wire, buf: &mut [u8]) -> ReadEnd
+    requires { 0 < length buf.old }
+    ensures came { Some wire.new.came.bytes ≡ read_after result buf.new (Some wire.old.came.bytes) }
+    ensures went { wire.new.went ≡ wire.old.went }
+    ensures some { (n : ℕ) → result ≡ ReadEnd.Got n → 0 < n }
+    ensures fits { (n : ℕ) → result ≡ ReadEnd.Got n → n ≤ length buf.new }
+{
+    let end = read_system(&wire.stream, buf);
+    if let ReadEnd::Got(count) = end {
+        let bytes = &buf[..count];
+        wire.came = wire.came.and(&Piece { bytes });
+    }
+    end
+}
+
+/// Writes what is taken, and notes it.
+#[tactic(auto, unfolding(gv_io::specs::Streams::appended))]
+pub fn write_stream(wire: &mut Wire, bytes: &[u8]) -> WriteEnd
+    requires { 0 < length bytes.now }
+    ensures went { Some wire.new.went.bytes ≡ written_after result bytes.now (Some wire.old.went.bytes) }
+    ensures came { wire.new.came ≡ wire.old.came }
+    ensures some { (n : ℕ) → result ≡ WriteEnd.Took n → 0 < n }
+    ensures fits { (n : ℕ) → result ≡ WriteEnd.Took n → n ≤ length bytes.now }
+{
+    let end = write_system(&wire.stream, bytes);
+    if let WriteEnd::Took(count) = end {
+        let bytes = &bytes[..count];
+        wire.went = wire.went.and(&Piece { bytes });
+    }
+    end
+}
+
 /// Reads what came.
-pub fn read_stream(stream: &Option<TcpStream>, buf: &mut [u8]) -> ReadEnd
+fn read_system(stream: &Option<TcpStream>, buf: &mut [u8]) -> ReadEnd
     requires { 0 < length buf.old }
     ensures some { (n : ℕ) → result ≡ ReadEnd.Got n → 0 < n }
     ensures fits { (n : ℕ) → result ≡ ReadEnd.Got n → n ≤ length buf.new }
@@ -65,7 +130,7 @@ pub fn read_stream(stream: &Option<TcpStream>, buf: &mut [u8]) -> ReadEnd
 }
 
 /// Writes what is taken.
-pub fn write_stream(stream: &Option<TcpStream>, bytes: &[u8]) -> WriteEnd
+fn write_system(stream: &Option<TcpStream>, bytes: &[u8]) -> WriteEnd
     requires { 0 < length bytes.now }
     ensures some { (n : ℕ) → result ≡ WriteEnd.Took n → 0 < n }
     ensures fits { (n : ℕ) → result ≡ WriteEnd.Took n → n ≤ length bytes.now }

@@ -7,7 +7,7 @@ use Rattle.native_board.specs.declared.views.HubCell.TheVariants.{Stopped}
 use Rattle.native_board.specs.declared.views.HubView.{HubView}
 use Rattle.native_board.specs.Rules.{hub_cell}
 use Rattle.native_pool.specs.Desks.{DeskView}
-use Rattle.native_pool.specs.Pools.{Pool, IsSoundDesk, HasStopped, WhileRunning, joined_each}
+use Rattle.native_pool.specs.Pools.{BoardView, Pool, IsSoundDesk, HasStopped, WhileRunning, joined_each}
 use Rattle.native_pool.specs.Views.{start_cell}
 use Rattle.native_pool.proofs.JobLemmas.{some_is}
 
@@ -24,7 +24,7 @@ joins_next running refused starts left start before after all taken counted was 
     ap (joined_each (map sees left)) counted ∙ (joins_first (sees start) (map sees left) before ∙ (ap (λ l. joined_each (map sees l) before) (sym taken) ∙ was))
 
 -- the workers of all cells were told to end, so each that runs was
-pub told_stop : (p : Pool) (d : DeskView) (ended : Option HubView) (hub : HubView) → p.desk ≡ Some d → IsSoundDesk p d → ended ≡ Some hub → hub.posts ≡ d.hub.posts → d.hub.sweeps < hub.sweeps
+pub told_stop : (p : Pool) (d : DeskView) (ended : Option BoardView) (hub : HubView) → p.desk ≡ Some d → IsSoundDesk p d → ended ≡ Some (record { board = d.board; hub = hub }) → hub.posts ≡ d.hub.posts → d.hub.sweeps < hub.sweeps
     → ((i : ℕ) → i < length d.started → hub_cell hub i ≡ Stopped) → WhileRunning (λ (pool : Pool) (desk : DeskView). HasStopped pool ended desk) p
 told_stop p d ended hub is sound known posts swept stopped =
     let all : length d.started ≡ length p.starts = ap length sound.started ∙ length-map p.starts (λ (start : Result ℕ ℕ). is_ok start) in

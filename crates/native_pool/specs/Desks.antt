@@ -1,6 +1,7 @@
 -- What the hub of a pool keeps while the pool runs, and what each of its steps may do to that.
 use Rattle.std.specs.Prelude.{◌≡◌, ◌⊎◌, ℕ, ◌+◌, ◌<◌, ◌≤◌, ◌==◌, Bool, true, false, if◌then◌else◌, List, [], ◌∷◌, ◌++◌, map, length, slice_index_or, All, Option, Some, None, option_map}
 use Rattle.std.specs.List.{list_any, flat_map}
+use Rattle.atomic_table.specs.Seated.{TableId}
 use Rattle.gv_values.specs.declared.job.Job.{Job}
 use Rattle.gv_values.specs.declared.job.Answer.{Answer}
 use Rattle.world_rules.specs.declared.question.PostedJob.{PostedJob}
@@ -13,9 +14,10 @@ use Rattle.native_board.specs.declared.views.HubCell.TheVariants.{Sent}
 use Rattle.native_board.specs.declared.views.HubView.{HubView}
 use Rattle.native_board.specs.Passes.{KnowsFree, Sweeps, finished}
 
--- what the hub knows of the board; whether each cell's worker was started; the jobs that no cell has taken yet, the
+-- which board it is, and what the hub knows of it; whether each cell's worker was started; the jobs that no cell has taken yet, the
 -- oldest first; and the results of the last sweep that were not handed on yet
 pub record DeskView : Type 0 where
+  pub board : TableId
   pub hub : HubView
   pub started : List Bool
   pub waiting : List PostedJob

@@ -1,5 +1,6 @@
 -- What a world of native threads means to those that use it, beside what every world means.
 use Rattle.std.specs.Prelude.{◌≡◌, ℕ, zero, suc, ◌-◌, ◌<◌, ◌≤◌, true, List, [], ◌∷◌, map, min, length, slice_get, All, Option, Some, Result, Ok, Err, is_some, is_ok, IfErr}
+use Rattle.atomic_table.specs.Seated.{TableId}
 use Rattle.gv_values.specs.declared.job.Answer.{Answer}
 use Rattle.world_rules.specs.declared.question.PostedJob.{PostedJob}
 use Rattle.world_rules.specs.declared.question.Question.{Question}
@@ -15,9 +16,14 @@ use Rattle.gv_values.specs.Counts.{HasRisen}
 use Rattle.gv_values.specs.OneMore.{one_more}
 use Rattle.native_pool.specs.Desks.{DeskView, Balances}
 
+-- a board, and what its hub knew of it
+pub record BoardView : Type 0 where
+  pub board : TableId
+  pub hub : HubView
+
 -- posts, answers, moment and number of workers; the clock's last reading, and that at which it began; how often its
 -- spawner refused and how often it joined; what each start answered, the cell of the worker that runs or of the task
--- that was given up; while it runs, what its hub keeps; and what the hub knew of the board when it last ended
+-- that was given up; while it runs, what its hub keeps; and the board of the hub, and what that knew of it, when it last ended
 pub record Pool : Type 0 where
   pub posts : List PostedJob
   pub answers : List Answer
@@ -29,7 +35,7 @@ pub record Pool : Type 0 where
   pub joins : ℕ
   pub starts : List (Result ℕ ℕ)
   pub desk : Option DeskView
-  pub ended : Option HubView
+  pub ended : Option BoardView
 
 -- what it means as a world: its rule rests on nothing
 abbrev pub pool_meaning : Pool → WorldMeaning
@@ -88,10 +94,10 @@ joined_each [] joins = joins
 joined_each (Ok cell ∷ starts) joins = joined_each starts (one_more joins)
 joined_each (Err cell ∷ starts) joins = joined_each starts joins
 
--- Since then the board was swept, no job was posted to it, and each worker that runs was told to end
-pub record HasStopped (p : Pool) (ended : Option HubView) (d : DeskView) : Type 0 where
+-- Since then its own board was swept, no job was posted to it, and each worker that runs was told to end
+pub record HasStopped (p : Pool) (ended : Option BoardView) (d : DeskView) : Type 0 where
   pub hub : HubView
-  pub is : ended ≡ Some hub
+  pub is : ended ≡ Some (record { board = d.board; hub = hub })
   pub posts : hub.posts ≡ d.hub.posts
   pub swept : d.hub.sweeps < hub.sweeps
   pub stopped : (i : ℕ) → slice_get p.starts i ≡ Some (Ok i) → hub_cell hub i ≡ Stopped

@@ -53,7 +53,7 @@ impl Desk {
         requires few { vec_len started ≤ MOST_WORKERS }
         requires room { MOST_WORKERS ≤ vec_capacity held }
         requires unused { (i : ℕ) → is_sent (hub_cell (hub_view pass) i) ≡ false }
-        ensures { desk_view result ≡ record { hub = hub_view pass; started = started.items; waiting = []; held = held.items } }
+        ensures { desk_view result ≡ record { board = hub_board pass; hub = hub_view pass; started = started.items; waiting = []; held = held.items } }
     {
         Desk {
             board,
@@ -110,6 +110,7 @@ impl Desk {
     /// Sweeps the board, and holds the results.
     fn sweep(&mut self)
         requires { self.old.held.items ≡ [] }
+        ensures same_board { hub_board self.new.pass ≡ hub_board self.old.pass }
         ensures held { self.new.held.items ≡ finished (hub_view self.old.pass).cells (hub_view self.new.pass).seen }
         ensures sweeps { Sweeps (hub_view self.old.pass) (hub_view self.new.pass) }
         ensures started { self.new.started.items ≡ self.old.started.items }
@@ -184,6 +185,7 @@ impl Desk {
 
     /// Sweeps the board, and gives up the jobs that wait and all results.
     pub(crate) fn give_up(&mut self)
+        ensures same_board { hub_board self.new.pass ≡ hub_board self.old.pass }
         ensures swept { (hub_view self.old.pass).sweeps < (hub_view self.new.pass).sweeps }
         ensures posts { (hub_view self.new.pass).posts ≡ (hub_view self.old.pass).posts }
         ensures started { self.new.started.items ≡ self.old.started.items }
@@ -208,6 +210,7 @@ impl Desk {
 
     /// Tells the workers of the free cells to end, and answers what is known of the board then.
     pub(crate) fn stop(self) -> HubPass
+        ensures same_board { hub_board result ≡ hub_board self.pass }
         ensures stopped { (i : ℕ) → i < MOST_WORKERS → KnowsFree (hub_view self.pass) i → hub_cell (hub_view result) i ≡ Stopped }
         ensures sweeps { (hub_view result).sweeps ≡ (hub_view self.pass).sweeps }
         ensures posts { (hub_view result).posts ≡ (hub_view self.pass).posts }

@@ -21,7 +21,7 @@ pub use clock_edge::SteadyClock;
 pub use desk::Desk;
 pub use ear::Ear;
 pub use history::History;
-pub use pool::{Parts, ThreadWorld};
+pub use pool::{Parts, ThreadWorld, thread_worlds_wait};
 pub use spawner::{NoThreads, NotStarted, Spawner};
 pub use spawner_edge::{StartThread, Thread, ThreadSpawner, spawn_worker};
 pub use task::{Gate, OpenGate, WorkerTask, worker};

@@ -1,5 +1,5 @@
 //! The world of native threads.
-ghost use Rattle.std.specs.Prelude.{◌≡◌, ℕ, ◌<◌, ◌≤◌, ◌-◌, ◌++◌, ◌∷◌, [], vec_len, vec_capacity, length, map, min, IfSome, IfOk, IsNone, is_ok};
+ghost use Rattle.std.specs.Prelude.{◌≡◌, true, ℕ, ◌<◌, ◌≤◌, ◌-◌, ◌++◌, ◌∷◌, [], vec_len, vec_capacity, length, map, min, IfSome, IfOk, IsNone, is_ok};
 ghost use Rattle.std.specs.Arc.{arc_value};
 ghost use Rattle.gv_values.specs.declared.limits.TheConstants.{MOST_WORKERS};
 ghost use Rattle.native_board.specs.declared.views.HubCell.TheVariants.{Stopped};
@@ -346,6 +346,7 @@ fn await_answer<H: Wait, R: Ear, C: Clock>(
 
 /// Waits until no worker has a job, and tells the workers to end. What is known of the board then is answered.
 fn wind_down<H: Wait, R: Ear>(rt: &H, ear: &mut R, mut desk: Desk) -> HubPass
+    ensures same_board { hub_board result ≡ hub_board desk.pass }
     ensures posts { (hub_view result).posts ≡ (hub_view desk.pass).posts }
     ensures swept { (hub_view desk.pass).sweeps < (hub_view result).sweeps }
     ensures stopped { (i : ℕ) → i < vec_len desk.started → hub_cell (hub_view result) i ≡ Stopped }
@@ -489,3 +490,15 @@ impl<
         join_all(&mut self.spawner, starts);
     }
 }
+
+/// A world of native threads may be long in answering, so what stands in the output is handed on before it is asked.
+pub fn thread_worlds_wait<
+    H: Wait + Drop,
+    R: Ear + Drop,
+    B: Bell + Drop,
+    C: Clock + Drop,
+    G: Gate + Drop,
+    S: Spawner<B, G> + Drop,
+>()
+    ensures { ⟦<ThreadWorld<H, R, B, C, G, S> as World>⟧.waits ≡ true }
+{}

@@ -1,10 +1,12 @@
 -- The words of bytes, taken off their front one by one.
-use Rattle.std.proofs.Common.{◌≡◌, ◌<◌, ◌==◌, ℕ, Bool, false, List, [], ◌∷◌, ◌++◌, length, map, refl, sym, ap, subst, ◌∙◌}
+use Rattle.std.proofs.Common.{◌≡◌, ◌<◌, ◌==◌, ℕ, Bool, false, List, [], ◌∷◌, ◌++◌, length, map, take, refl, sym, ap, subst, ◌∙◌}
 use Rattle.std.specs.List.{slice_split, position_or_len, before_first, after_first}
 use Rattle.std.proofs.lemmas.List.{map_push}
 use Rattle.std.proofs.lemmas.List.Splits.{slice_split_first, slice_split_none}
 use Rattle.std.proofs.lemmas.List.Sums.{fails_before_first}
 use Rattle.std.proofs.lemmas.List.Elements.{All-from_get_or}
+use Rattle.gv_io.specs.Memory.{SinkState}
+use Rattle.page_answer.specs.Page.{Written, first_of, written_in}
 
 abbrev pub is_end : ℕ → Bool
 is_end b = b == 10
@@ -38,7 +40,11 @@ pub alone : (left : List ℕ) → position_or_len is_end left ≡ length left �
 alone left all = slice_split_none is_end left (All-from_get_or (λ b. is_end b ≡ false) left 0 (λ i lt. fails_before_first is_end left i 0 (subst (λ n. i < n) (sym all) lt)))
 
 -- what was said of some words and bytes was said of those that are the same
-pub said_of : (says : ℕ → List (List ℕ) → List ℕ → List ℕ → List ℕ → Type 0) {status : ℕ} {words others : List (List ℕ)} {text other out first err front : List ℕ} →
+pub said_of : (says : ℕ → List (List ℕ) → List ℕ → Written → Written → Type 0) {status : ℕ} {words others : List (List ℕ)} {text other : List ℕ} {out first err front : Written} →
     says status words text out err → words ≡ others → text ≡ other → out ≡ first → err ≡ front → says status others other first front
 said_of says {status} {words} {others} {text} {other} {out} {first} {err} {front} so as_words as_text as_out as_err =
     subst (λ w. says status w other first front) as_words (subst (λ t. says status words t first front) as_text (subst (λ o. says status words text o front) as_out (subst (λ e. says status words text out e) as_err so)))
+
+-- what stands in a sink is what was copied of it
+pub copied : (s : SinkState) (room count : ℕ) (all : List ℕ) → s.room ≡ room → length all ≡ room → take count all ≡ s.bytes → written_in s ≡ first_of count all
+copied s room count all own as_long is = ap (λ n. record { room = n; bytes = s.bytes }) (own ∙ sym as_long) ∙ ap (λ b. record { room = length all; bytes = b }) (sym is)

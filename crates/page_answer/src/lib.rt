@@ -2,9 +2,11 @@
 #![tactic(auto)]
 
 ghost use Rattle.std.specs.Prelude.{◌≡◌, ◌≤◌, List, ℕ, [], length, take, map, string_bytes, IfOk};
-ghost use Rattle.page_answer.specs.Page.{AreWords};
+ghost use Rattle.page_answer.specs.Page.{AreWords, Written, first_of, written_in};
 
-use gv_io::MemorySink;
+mod page_sink;
+
+pub use page_sink::PageSink;
 use std::alloc::{AllocError, Global};
 
 /// How many bytes of out and of err a call has written. It has the layout of C, since a page reads it.
@@ -28,8 +30,8 @@ pub struct Answered {
 
 /// Whoever does what words name.
 pub trait Program {
-    /// With this status these words and this text have these bytes on out and on err.
-    ghost says: { ℕ → List (List ℕ) → List ℕ → List ℕ → List ℕ → Type 0 };
+    /// With this status these words and this text have this on out and on err.
+    ghost says: { ℕ → List (List ℕ) → List ℕ → Written → Written → Type 0 };
 
     /// Does what the words name with this text as the input, and answers the status.
     fn run(
@@ -37,11 +39,11 @@ pub trait Program {
         alloc: Global,
         words: &[String],
         text: Vec<u8>,
-        out: &mut MemorySink,
-        err: &mut MemorySink,
+        out: &mut PageSink,
+        err: &mut PageSink,
     ) -> u32
         requires empty { (out.old.bytes ≡ []) × (err.old.bytes ≡ []) }
-        ensures { says result (map string_bytes words.now) text.items out.new.bytes err.new.bytes };
+        ensures { says result (map string_bytes words.now) text.items (written_in out.new) (written_in err.new) };
 }
 
 /// The words of the bytes, which LFs part; none where the bytes are no UTF-8.
@@ -83,15 +85,15 @@ pub fn answer<P: Program>(
 ) -> Result<Answered, AllocError>
     ensures room { (length out.new ≡ length out.old) × (length err.new ≡ length err.old) }
     ensures fits { IfOk result (λ answered. (answered.said.out ≤ length out.new) × (answered.said.err ≤ length err.new)) }
-    ensures said { IfOk result (λ answered. (all : List (List ℕ)) × AreWords words.now all × P.says answered.status all text.now (take answered.said.out out.new) (take answered.said.err err.new)) }
+    ensures said { IfOk result (λ answered. (all : List (List ℕ)) × AreWords words.now all × P.says answered.status all text.now (first_of answered.said.out out.new) (first_of answered.said.err err.new)) }
 {
     let words = words_in(alloc, words)?;
     let text = Vec::from_slice(alloc, text)?;
-    let mut to_out = MemorySink::new(alloc, out.len())?;
-    let mut to_err = MemorySink::new(alloc, err.len())?;
+    let mut to_out = PageSink::new(alloc, out.len())?;
+    let mut to_err = PageSink::new(alloc, err.len())?;
     let status = program.run(alloc, words.as_slice(), text, &mut to_out, &mut to_err);
-    // The sinks take no more than there is room for, but no clause of `Sink` says so.
-    if out.len() < to_out.bytes().len() || err.len() < to_err.bytes().len() {
+    // A program leaves the sinks their room, but no clause of `Sink` says so.
+    if to_out.room() != out.len() || to_err.room() != err.len() {
         return Err(AllocError);
     }
     let said = Said {

@@ -1,5 +1,5 @@
 -- From the calls of a world and of the engine to what a run in it came to.
-use Rattle.std.proofs.Common.{◌≡◌, ◌≢◌, ◌⊎◌, ◌↔◌, inl, inr, refl, ap, sym, subst, ◌∙◌, ℕ, ◌<◌, true, false, List, [], ◌∷◌, ◌++◌, Option, Some, append_assoc, append-nil, ◌≤◌, arith}
+use Rattle.std.proofs.Common.{Bool, ◌≡◌, ◌≢◌, ◌⊎◌, ◌↔◌, inl, inr, refl, ap, sym, subst, ◌∙◌, ℕ, ◌<◌, true, false, List, [], ◌∷◌, ◌++◌, Option, Some, append_assoc, append-nil, ◌≤◌, arith}
 use Rattle.gv_values.specs.Counts.{HasRisen}
 use Rattle.gv_values.specs.declared.job.Answer.{Answer}
 use Rattle.gv_values.specs.declared.limits.TheConstants.{MOST_WORKERS}
@@ -28,7 +28,7 @@ use Rattle.hub_engine.specs.Ends.{HasLogged, IsPartLogged, RanTo, end_of_run}
 use Rattle.hub_engine.specs.Run.{WroteAhead}
 use Rattle.run_command.specs.Faults.{Counts}
 use Rattle.run_command.specs.Inner.{RanInWorld}
-use Rattle.run_command.specs.Running.{IsBegun, RanHeld, RanNatively, run_of}
+use Rattle.run_command.specs.Running.{IsBegun, IsHeldAhead, RanHeld, RanNatively, run_of}
 use Rattle.command_words.specs.Ranges.{IsWorldInRange}
 use Rattle.command_words.specs.declared.command.RunOptions.{RunOptions}
 use Rattle.command_words.specs.declared.command.RunWorld.{RunWorld}
@@ -244,6 +244,30 @@ ran_held law posts answers end c turns moves workers k before inner stands w out
       done = λ number told. l.ahead number (sym (ap (is_answered number) n.answers) ∙ ap (λ (x : Ran). is_answered number (answers_told x.lines)) is ∙ told);
       logged = logged begun;
     }
+
+-- what was asked of it was asked ahead
+pub held_ahead : (waits : Bool) (end : EngineEnd) (c : Scenario) (turns moves workers k : ℕ) (before inner : WorldMeaning) (w : ScriptWorld) (out0 out1 handed1 : Option (List ℕ)) → 0 < workers
+    → RanInWorld end (run c turns moves) workers before (record (script_meaning w) { reference = k }) (script_log w) out0 out1 → Leads inner (script_meaning w)
+    → (waits ≡ true → WroteAhead (run c turns moves) w.answers.items out0 handed1) → IsHeldAhead waits (run c turns moves) inner out0 out1 handed1
+held_ahead waits end c turns moves workers k before inner w out0 out1 handed1 some_ h l handed =
+    let is = script_log_is w h.part.part h.part.stood in
+    let begun : 0 < w.workers = subst (λ (x : ℕ). 0 < x) (sym h.workers_are) some_ in
+    record {
+      given = w.answers.items;
+      part = h.part.part;
+      later = h.part.later;
+      begins = h.part.is;
+      answers = is.1;
+      posts = is.0 ∙ sym (l.same_posts begun);
+      done = l.ahead;
+      written = h.ahead;
+      handed = handed;
+    }
+
+-- the engine that is prepared with these options has asked them so
+pub held_began_so : (waits : Bool) (U : Type 0) (options : RunOptions) (s : Scenario) (after : WorldMeaning) (engine : Prepared) (out0 out1 handed1 : Option (List ℕ)) → engine ≡ record { scenario = s; turns = options.turns; moves = options.moves }
+    → IsHeldAhead waits (run engine.scenario engine.turns engine.moves) after out0 out1 handed1 ⊎ U → IsHeldAhead waits (run s options.turns options.moves) after out0 out1 handed1 ⊎ U
+held_began_so waits U options s after engine out0 out1 handed1 is h = subst (λ (e : Prepared). IsHeldAhead waits (run e.scenario e.turns e.moves) after out0 out1 handed1 ⊎ U) is h
 
 -- ---- the run of the options
 

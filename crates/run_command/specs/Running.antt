@@ -1,8 +1,8 @@
 -- Runs of a scenario in a world, which is begun before and finished after.
-use Rattle.std.specs.Prelude.{◌≡◌, ◌⊎◌, ℕ, Bool, true, false, List, [], Option}
+use Rattle.std.specs.Prelude.{◌≡◌, ◌⊎◌, ℕ, Bool, true, false, List, [], ◌++◌, Option}
 use Rattle.gv_values.specs.declared.job.Answer.{Answer}
 use Rattle.world_rules.specs.declared.question.LogEntry.{LogEntry}
-use Rattle.world_rules.specs.Legal.{AreLegal, is_answered}
+use Rattle.world_rules.specs.Legal.{AreLegal, answers_of, is_answered, posts_of}
 use Rattle.world.specs.LegalLogs.{HasLegalLog}
 use Rattle.world.specs.Outside.{WorldMeaning}
 use Rattle.scenario_tree.specs.declared.tree.Scenario.{Scenario}
@@ -40,6 +40,20 @@ pub record IsBegun (options : RunOptions) (s : Scenario) (answers : List Answer)
 pub record IsRunAhead (waits : Bool) (options : RunOptions) (s : Scenario) (answers : List Answer) (out0 out1 handed1 : Option (List ℕ)) : Type 0 where
   pub written : (workers : ℕ) → options.world ≡ Native workers → WroteAhead (λ given. run_of options given s) answers out0 out1
   pub handed : (workers : ℕ) → options.world ≡ Native workers → waits ≡ true → WroteAhead (λ given. run_of options given s) answers out0 handed1
+
+-- With held order the run is given answers in the order of a script. Native workers were posted what it posts up to the
+-- last of these, and answered that a job is done for each that these say so of; and what it says before that answer
+-- stood in out then, and was handed on where they may be long in answering.
+pub record IsHeldAhead (waits : Bool) (whole : List Answer → Ran) (after : WorldMeaning) (out0 out1 handed1 : Option (List ℕ)) : Type 0 where
+  pub given : List Answer
+  pub part : List LogEntry
+  pub later : List LogEntry
+  pub begins : (whole given).log ≡ part ++ later
+  pub answers : answers_of part ≡ given
+  pub posts : posts_of part ≡ after.posts
+  pub done : (number : ℕ) → is_answered number given ≡ true → is_answered number after.answers ≡ true
+  pub written : WroteAhead whole given out0 out1
+  pub handed : waits ≡ true → WroteAhead whole given out0 handed1
 
 -- the run was begun so; or native workers are as they were: nothing was posted to them, and they answered nothing
 abbrev pub BeganSo : Bool → RunOptions → Scenario → WorldMeaning → WorldMeaning → Option (List ℕ) → Option (List ℕ) → Option (List ℕ) → Type 0

@@ -13,7 +13,7 @@ ghost use Rattle.scenario_rules.specs.Rules.{IsWellFormed};
 ghost use Rattle.run_command.specs.Ends.{HadNoMemory, is_broken_off};
 ghost use Rattle.run_command.specs.Faults.{Counts};
 ghost use Rattle.run_command.specs.Inner.{RanInWorld};
-ghost use Rattle.run_command.specs.Running.{BeganSo, IsBegun, RanHeld, RanNatively, is_native_world, run_of};
+ghost use Rattle.run_command.specs.Running.{BeganSo, IsBegun, IsHeldAhead, RanHeld, RanNatively, is_native_world, run_of};
 
 use command_words::{RunOptions, RunWorld};
 use gv_io::Sink;
@@ -149,6 +149,8 @@ fn run_held<K: Sink, W: World>(
     requires well_formed { IsWellFormed engine.scenario }
     ensures written { RanTo result (script_run engine.scenario engine.turns engine.moves 0) (K.written out.old) (K.written out.new) }
     ensures lawful { meets_laws (script_run engine.scenario engine.turns engine.moves 0).lines ≡ true }
+    ensures began { IsHeldAhead W.waits (run engine.scenario engine.turns engine.moves) (W.meaning native.new) (K.written out.old) (K.written out.new) (K.handed out.new)
+        ⊎ HadNoMemory result (K.written out.old) (K.written out.new) }
     ensures native { result ≢ EngineEnd.WriteFault → result ≢ EngineEnd.Memory →
         RanHeld workers (script_run engine.scenario engine.turns engine.moves 0) (W.meaning native.new) (W.stands_for native.new) }
     ensures rests { (W.meaning native.new).runs ≡ false }
@@ -187,6 +189,9 @@ pub fn run_scenario<K: Sink, W: World>(
     ensures begun { IsBegun options checked (W.meaning native.new).answers (K.written out.old) (K.written out.new)
         ⊎ HadNoMemory result (K.written out.old) (K.written out.new) }
     ensures began { BeganSo W.waits options checked (W.meaning native.old) (W.meaning native.new) (K.written out.old) (K.written out.new) (K.handed out.new) }
+    ensures held_began { (workers : ℕ) → options.world ≡ RunWorld.Held workers →
+        IsHeldAhead W.waits (run checked options.turns options.moves) (W.meaning native.new) (K.written out.old) (K.written out.new) (K.handed out.new)
+        ⊎ HadNoMemory result (K.written out.old) (K.written out.new) }
     ensures untouched { is_native_world options.world ≡ false → native.new ≡ native.old }
     ensures rests { (W.meaning native.new).runs ≡ false }
     ensures hands { result ≢ EngineEnd.WriteFault → result ≢ EngineEnd.Memory → K.handed out.new ≡ K.written out.new }

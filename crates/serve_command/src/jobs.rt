@@ -5,7 +5,7 @@ ghost use Rattle.stream_net.specs.Net.{IsFresh};
 ghost use Rattle.stream_server.specs.Ranges.{IsInRange};
 ghost use Rattle.serve_command.specs.Serving.{IsToldFirst};
 ghost use Rattle.serve_command.specs.Jobs.{ServesJobsAt};
-ghost use Rattle.wsgi_native.specs.Tied.{IsInOrder};
+ghost use Rattle.wsgi_native.specs.Tied.{HasPosted, IsInOrder};
 
 use crate::serving::Served;
 use crate::telling::{open_port, tell_end};
@@ -51,6 +51,7 @@ pub fn serve_jobs_command<K: Sink, N: Net, W: World, H: Wait>(
     requires runs { (W.meaning world.old).runs ≡ true }
     requires no_posts { (W.meaning world.old).posts ≡ [] }
     requires no_answers { (W.meaning world.old).answers ≡ [] }
+    requires log { W.stands_for world.old [] }
     ensures serves { ServesJobsAt result terms.port terms.limits (N.meaning net.new) (W.meaning world.new) (K.written out.old) (K.written out.new) }
     ensures told { IsToldFirst terms.port (N.meaning net.new) (K.written out.old) (K.handed out.new) }
     ensures handed { K.handed out.old ≡ K.written out.old → result ≢ Served.WriteFault → result ≢ Served.Memory → K.handed out.new ≡ K.written out.new }
@@ -60,8 +61,10 @@ pub fn serve_jobs_command<K: Sink, N: Net, W: World, H: Wait>(
     ensures out_unfailed { result ≢ Served.WriteFault → K.faults out.new ≡ K.faults out.old }
     ensures net_never_falls { (N.meaning net.old).faults ≤ (N.meaning net.new).faults }
     ensures out_never_falls { K.faults out.old ≤ K.faults out.new }
-    // The world still runs, with as many workers, and each job that it answered was posted for a request.
+    // The world still runs, with as many workers, and each job that it answered was posted.
     ensures in_order { IsInOrder (W.meaning world.new) }
+    // What was posted has the numbers from 1, in order, and takes none of the world's own time.
+    ensures posted { HasPosted (W.meaning world.new) (W.stands_for world.new) }
     ensures workers { (W.meaning world.new).workers ≡ (W.meaning world.old).workers }
 {
     let limits = terms.limits;

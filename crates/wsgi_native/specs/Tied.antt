@@ -1,8 +1,10 @@
 -- What ties the clients that wait for jobs to the world that does the jobs.
-use Rattle.std.specs.Prelude.{◌≡◌, ◌≢◌, ℕ, ◌<◌, ◌≤◌, true, false, List, Option, Some, None, Contains}
+use Rattle.std.specs.Prelude.{◌≡◌, ◌≢◌, ℕ, ◌+◌, ◌<◌, ◌≤◌, true, false, List, [], ◌∷◌, length, Option, Some, None, Contains}
 use Rattle.gv_values.specs.declared.job.Job.{Job}
+use Rattle.world_rules.specs.declared.question.LogEntry.{LogEntry}
 use Rattle.world_rules.specs.declared.question.PostedJob.{PostedJob}
 use Rattle.world_rules.specs.Legal.{is_answered, is_posted, posted}
+use Rattle.world.specs.LegalLogs.{HasLegalLog}
 use Rattle.world.specs.Outside.{WorldMeaning}
 use Rattle.wsgi_core.specs.Steps.{answered_of}
 use Rattle.stream_server.specs.Keeping.{Listing}
@@ -16,6 +18,22 @@ use Rattle.wsgi_native.specs.declared.job_talk.JobTalk.{JobTalk}
 pub record IsInOrder (w : WorldMeaning) : Type 0 where
   pub runs : w.runs ≡ true
   pub done : (number : ℕ) → is_answered number w.answers ≡ true → is_posted number w.posts ≡ true
+
+-- the posts have the numbers from this one on, in order
+abbrev pub AreNumberedFrom : ℕ → List PostedJob → Type 0
+AreNumberedFrom next [] = Unit {0}
+AreNumberedFrom next (post ∷ posts) = (post.number ≡ next) × AreNumberedFrom (next + 1) posts
+
+-- what was posted to the world has the numbers from 1, in order; and the world stands for a log in which each answer is
+-- legal and no job takes any of its own time
+pub record HasPosted (w : WorldMeaning) (stands : List LogEntry → Type 0) : Type 0 where
+  pub numbered : AreNumberedFrom 1 w.posts
+  pub logged : HasLegalLog w stands
+
+-- the same, and so many were posted
+pub record HasPostedTo (last : ℕ) (w : WorldMeaning) (stands : List LogEntry → Type 0) : Type 0 where
+  pub count : length w.posts ≡ last
+  pub has : HasPosted w stands
 
 -- the client waits for the job of this number, which is the one that its request asks for, and which that request owns
 pub record Awaits (posts : List PostedJob) (owner : Owner) (number : ℕ) (g : Client JobTalk) : Type 0 where

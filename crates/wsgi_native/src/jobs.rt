@@ -14,7 +14,7 @@ ghost use Rattle.wsgi_native.specs.Giving.{Gives};
 ghost use Rattle.wsgi_native.specs.JobApp.{job_app};
 ghost use Rattle.wsgi_native.specs.Owning.{AllAgree, owner_in};
 ghost use Rattle.wsgi_native.specs.Talks.{job_protocol};
-ghost use Rattle.wsgi_native.specs.Tied.{IsInOrder, IsTied, IsTiedBut};
+ghost use Rattle.wsgi_native.specs.Tied.{HasPosted, HasPostedTo, IsInOrder, IsTied, IsTiedBut};
 
 use crate::job_app::{job_asked, job_reply};
 use crate::job_talk::{Asked, HeldFor, JobTalk, asked_for, freed};
@@ -100,11 +100,11 @@ impl<W: World> Service<JobTalk, W> for Jobs {
 
     ghost one = { λ jobs world conn. job_app };
 
-    ghost tied = { λ jobs world table accepted. IsTied (W.meaning world) (owner_in jobs.owners.list) jobs.posted (get nat_eq jobs.waiting) (IsListed table) accepted };
+    ghost tied = { λ jobs world table accepted. IsTied (W.meaning world) (owner_in jobs.owners.list) jobs.posted (get nat_eq jobs.waiting) (IsListed table) accepted × HasPostedTo jobs.posted (W.meaning world) (W.stands_for world) };
 
-    ghost tied_but = { λ jobs world table accepted conn. IsTiedBut (W.meaning world) (owner_in jobs.owners.list) jobs.posted (get nat_eq jobs.waiting) (IsListed table) accepted conn };
+    ghost tied_but = { λ jobs world table accepted conn. IsTiedBut (W.meaning world) (owner_in jobs.owners.list) jobs.posted (get nat_eq jobs.waiting) (IsListed table) accepted conn × HasPostedTo jobs.posted (W.meaning world) (W.stands_for world) };
 
-    ghost sound = { λ jobs world. IsInOrder (W.meaning world) };
+    ghost sound = { λ jobs world. IsInOrder (W.meaning world) × HasPosted (W.meaning world) (W.stands_for world) };
 
     ghost wants = { AsksForJob };
 
@@ -227,9 +227,9 @@ impl<W: World> Service<JobTalk, W> for Jobs {
 
     ghost fits_one = { λ jobs world. laws.job_agrees (owner_in jobs.owners.list) (W.meaning world) };
 
-    ghost tied_new = { λ jobs world table now accepted tied same. laws.tied_new (W.meaning world) (owner_in jobs.owners.list) jobs.posted (get nat_eq jobs.waiting) (IsListed table) (IsListed now) accepted tied same };
+    ghost tied_new = { λ jobs world table now accepted tied same. (laws.tied_new (W.meaning world) (owner_in jobs.owners.list) jobs.posted (get nat_eq jobs.waiting) (IsListed table) (IsListed now) accepted tied.0 same, tied.1) };
 
-    ghost tied_again = { λ jobs world table now accepted conn tied beside. laws.tied_again (W.meaning world) (owner_in jobs.owners.list) jobs.posted (get nat_eq jobs.waiting) (IsListed table) (IsListed now) accepted conn tied beside };
+    ghost tied_again = { λ jobs world table now accepted conn tied beside. (laws.tied_again (W.meaning world) (owner_in jobs.owners.list) jobs.posted (get nat_eq jobs.waiting) (IsListed table) (IsListed now) accepted conn tied.0 beside, tied.1) };
 
-    ghost tied_out = { λ jobs world table now accepted conn client tied listed free beside. laws.tied_out (W.meaning world) (owner_in jobs.owners.list) jobs.posted (get nat_eq jobs.waiting) (IsListed table) (IsListed now) accepted conn client tied listed free beside };
+    ghost tied_out = { λ jobs world table now accepted conn client tied listed free beside. (laws.tied_out (W.meaning world) (owner_in jobs.owners.list) jobs.posted (get nat_eq jobs.waiting) (IsListed table) (IsListed now) accepted conn client tied.0 listed free beside, tied.1) };
 }

@@ -9,7 +9,7 @@ ghost use Rattle.wsgi_core.specs.Session.{session};
 ghost use Rattle.wsgi_native.specs.Agreeing.{HasEarned};
 ghost use Rattle.wsgi_native.specs.Ends.{IsOutOfJobs};
 ghost use Rattle.wsgi_native.specs.JobApp.{job_app};
-ghost use Rattle.wsgi_native.specs.Tied.{IsInOrder};
+ghost use Rattle.wsgi_native.specs.Tied.{HasPosted, IsInOrder};
 
 use crate::job_talk::JobTalk;
 use crate::jobs::Jobs;
@@ -68,6 +68,7 @@ pub fn serve_jobs<N: Net, W: World, H: Wait>(
     requires runs { (W.meaning world.old).runs ≡ true }
     requires no_posts { (W.meaning world.old).posts ≡ [] }
     requires no_answers { (W.meaning world.old).answers ≡ [] }
+    requires log { W.stands_for world.old [] }
     // Each connection by itself, in whichever order the world answers: what was written begins what the session of what
     // was read from it sends.
     ensures own { EachTold (N.meaning net.new).connections (λ c bytes out. BeginsSo (session job_app port bytes c.ended).bytes out) }
@@ -94,8 +95,10 @@ pub fn serve_jobs<N: Net, W: World, H: Wait>(
     // for one more, but that memory may run out at that.
     ensures no_jobs { result ≡ JobsEnd.NoJobs → IsOutOfJobs port (N.meaning net.new) (W.meaning world.new) }
     ensures out_of_jobs { IsOutOfJobs port (N.meaning net.new) (W.meaning world.new) → (result ≡ JobsEnd.NoJobs) ⊎ (result ≡ JobsEnd.Memory) }
-    // The world still runs, with as many workers, and each job that it answered was posted for a request.
+    // The world still runs, with as many workers, and each job that it answered was posted.
     ensures in_order { IsInOrder (W.meaning world.new) }
+    // What was posted has the numbers from 1, in order, and takes none of the world's own time.
+    ensures posted { HasPosted (W.meaning world.new) (W.stands_for world.new) }
     ensures workers { (W.meaning world.new).workers ≡ (W.meaning world.old).workers }
 {
     let mut jobs = Jobs::new(alloc);

@@ -1,4 +1,4 @@
-use Rattle.std.proofs.Common.{sym, subst, ℕ}
+use Rattle.std.proofs.Common.{refl, sym, subst, ℕ}
 use Rattle.std.specs.Prelude.{nat_eq}
 use Rattle.std.specs.HashMap.{get}
 use Rattle.stream_server.specs.Tables.{IsListed}
@@ -10,17 +10,20 @@ use Rattle.wsgi_native.specs.Talks.{job_protocol}
 use Rattle.wsgi_native.specs.Tied.{IsTied}
 use Rattle.wsgi_native.specs.Laws.{job_agrees}
 use Rattle.wsgi_native.proofs.Earning.{earned_by}
+use Rattle.wsgi_native.proofs.Posting.{posted_none}
 use Rattle.wsgi_native.proofs.Tying.{first_order, tied_none}
 use Rattle.wsgi_native.proofs.Vain.{ends_in_vain, out_of_jobs}
 use Rattle.wsgi_native.proofs.serving.serve_jobs.Goals as goal
 
 pub serve_on-end-requires-clause-tied : goal.serve_on-end-requires-clause-tied
-serve_on-end-requires-clause-tied g c = λ table.
-    subst (λ (n : ℕ). IsTied (g.W.World.meaning c.args.world.now) (owner_in c.new-jobs.result.owners.list) n (get nat_eq c.new-jobs.result.waiting) (IsListed table) 0) (sym c.new-jobs.ensures.none)
-    (tied_none (g.W.World.meaning c.args.world.now) (owner_in c.new-jobs.result.owners.list) (get nat_eq c.new-jobs.result.waiting) (IsListed table) 0 c.requires.runs c.requires.no_posts c.requires.no_answers c.new-jobs.ensures.nobody)
+serve_on-end-requires-clause-tied g c = λ table. (
+  subst (λ (n : ℕ). IsTied (g.W.World.meaning c.args.world.now) (owner_in c.new-jobs.result.owners.list) n (get nat_eq c.new-jobs.result.waiting) (IsListed table) 0) (sym c.new-jobs.ensures.none)
+      (tied_none (g.W.World.meaning c.args.world.now) (owner_in c.new-jobs.result.owners.list) (get nat_eq c.new-jobs.result.waiting) (IsListed table) 0 c.requires.runs c.requires.no_posts c.requires.no_answers c.new-jobs.ensures.nobody),
+  posted_none _ _ _ c.new-jobs.ensures.none c.requires.no_posts c.requires.no_answers c.requires.log,
+)
 
 pub serve_on-end-requires-clause-sound : goal.serve_on-end-requires-clause-sound
-serve_on-end-requires-clause-sound g c = first_order (g.W.World.meaning c.args.world.now) c.requires.runs c.requires.no_answers
+serve_on-end-requires-clause-sound g c = (first_order (g.W.World.meaning c.args.world.now) c.requires.runs c.requires.no_answers, (posted_none 0 _ _ refl c.requires.no_posts c.requires.no_answers c.requires.log).has)
 
 pub returns-clause-own : goal.returns-clause-own
 returns-clause-own g c = own_of (session job_app c.args.port) c.args.limits.idle (g.N.Net.meaning c.serve_on-end.new.net).connections (c.serve_on-end.ensures.left (λ _. job_app) (job_agrees (owner_in c.serve_on-end.new.service.owners.list) (g.W.World.meaning c.serve_on-end.new.world))).served
