@@ -18,6 +18,7 @@ use native_pool::{
 };
 use std::alloc::{AllocError, Global};
 use std::io::Write;
+use std::os::fd::RawFd;
 use std::process::ExitCode;
 use std::sync::Wait;
 use std::thread::Threads;
@@ -80,11 +81,13 @@ fn run_streams<H: Wait, W: World, N: Net>(
     ))
 }
 
-/// Does what the program's words name over this world and the net of the system's sockets; gives its status.
+/// Does what the program's words name over this world and the net of the system's sockets; gives its status. The net is
+/// woken where the descriptor may be read.
 fn run_words<H: Wait, W: World>(
     rt: HostRuntime,
     handle: &H,
     native: &mut W,
+    bell: Option<RawFd>,
 ) -> Result<u8, AllocError>
     requires { (W.meaning native.old).runs ≡ false }
 {
@@ -92,22 +95,25 @@ fn run_words<H: Wait, W: World>(
     let Ok(mut net) = MioNet::new(rt, rt.alloc()) else {
         return Err(AllocError);
     };
+    net.watch(bell);
     let status = run_streams(rt, handle, words.as_slice(), native, &mut net);
     net.let_go();
     status
 }
 
-/// Runs the command over native threads that are made of these parts; gives its status.
+/// Runs the command over native threads that are made of these parts, of whose bell the descriptor tells; gives its
+/// status.
 fn run_over<H: Wait + Copy, R: Ear + Drop, B: Bell + Drop, S: Spawner<B, OpenGate> + Drop>(
     rt: HostRuntime,
     handle: H,
     ear: R,
     bell: B,
     spawner: S,
+    descriptor: Option<RawFd>,
 ) -> Result<u8, AllocError> {
     let clock = ProgramClock::new(rt);
     let mut native = ThreadWorld::new(rt.alloc(), handle, ear, bell, clock, OpenGate, spawner)?;
-    run_words(rt, &handle, &mut native)
+    run_words(rt, &handle, &mut native, descriptor)
 }
 
 /// Runs the command, and gives its status. Where the system has no poll by which a worker could wake the hub, the hub
@@ -120,12 +126,16 @@ fn run<H: Threads + Wait + Copy>(
     requires { IsAlwaysCallable start }
 {
     match PollEar::new(&rt, rt.alloc()) {
-        Ok((ear, bell)) => run_over(rt, handle, ear, bell, ThreadSpawner::new(handle, start)),
+        Ok((ear, bell)) => {
+            let descriptor = Some(ear.descriptor());
+            let spawner = ThreadSpawner::new(handle, start);
+            run_over(rt, handle, ear, bell, spawner, descriptor)
+        }
         Err(error) => {
             if error.kind() == io::ErrorKind::OutOfMemory {
                 return Err(AllocError);
             }
-            run_over(rt, handle, DeafEar, MuteBell, NoThreads::new())
+            run_over(rt, handle, DeafEar, MuteBell, NoThreads::new(), None)
         }
     }
 }

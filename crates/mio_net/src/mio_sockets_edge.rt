@@ -10,13 +10,15 @@ use crate::endpoint::{
     Endpoint, close_endpoint, hold_endpoint, name_endpoint, read_endpoint, write_endpoint,
 };
 use crate::linger_edge::Lingering;
-use crate::sockets_edge::{LISTENER, Taken, Told, Wire, next_stream, poll_into};
+use crate::sockets_edge::{LISTENER, Taken, Told, WATCHED, Wire, next_stream, poll_into};
 use gv_io::{Failed, one_more};
 use mio::net::TcpListener;
+use mio::unix::SourceFd;
 use mio::{Events, Interest, Poll};
 use std::alloc::Global;
 use std::io;
 use std::net::{Ipv4Addr, SocketAddr};
+use std::os::fd::RawFd;
 use std::rt::Clock;
 use std::time::{Duration, Instant};
 use stream_net::{Accepted, Account, Net, Ports, ReadEnd, Ready, WriteEnd};
@@ -51,6 +53,8 @@ pub struct MioNet<R> {
     listener: Option<TcpListener>,
     // Whether somebody may wait: the listener was told of since nobody was found.
     arrived: bool,
+    // Whether a descriptor is watched beside them.
+    woken: bool,
     endpoints: Vec<Endpoint>,
     lingering: Lingering,
     live: usize,
@@ -110,6 +114,19 @@ fn accept_stream(
     }
 }
 
+/// Whether the poll takes the descriptor, where there are both.
+fn watches(poll: &Option<Poll>, descriptor: Option<RawFd>) -> bool {
+    let Some(poll) = poll else {
+        return false;
+    };
+    let Some(descriptor) = descriptor else {
+        return false;
+    };
+    poll.registry()
+        .register(&mut SourceFd(&descriptor), WATCHED, Interest::READABLE)
+        .is_ok()
+}
+
 /// The milliseconds since the start, or as many as before where the clock gives fewer or none.
 fn reading<R: Clock>(rt: &R, start: &Option<Instant>, before: u64) -> u64
     ensures { before ≤ result }
@@ -148,6 +165,7 @@ impl<R: std::net::Net + Clock + Drop> MioNet<R> {
             queue,
             listener: None,
             arrived: false,
+            woken: false,
             endpoints: Vec::new(alloc),
             lingering: Lingering::new(alloc)?,
             live: 0,
@@ -157,6 +175,15 @@ impl<R: std::net::Net + Clock + Drop> MioNet<R> {
             faults: 0,
             blocked: false,
         })
+    }
+
+    /// Has a wait end also where this descriptor may be read, if there is one and the system's poll takes it. It stays
+    /// open until the net is let go.
+    pub fn watch(&mut self, descriptor: Option<RawFd>)
+        ensures { IsFresh (meaning_by self.old.endpoints.items self.old.most self.old.moment self.old.listens self.old.faults self.old.blocked)
+            → IsFresh (meaning_by self.new.endpoints.items self.new.most self.new.moment self.new.listens self.new.faults self.new.blocked) }
+    {
+        self.woken = watches(&self.poll, descriptor);
     }
 
     /// Waits until no closed connection lingers, at most a second. All that are open are let go at once.
@@ -308,6 +335,10 @@ impl<R: std::net::Net + Clock + Drop> Net for MioNet<R> {
 
     fn hold(&mut self, conn: u32, held: bool) {
         hold_endpoint(&mut self.endpoints[conn as usize], held);
+    }
+
+    fn is_woken(&self) -> bool {
+        self.woken
     }
 
     fn now(&self) -> u64 {

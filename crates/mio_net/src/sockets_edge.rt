@@ -21,6 +21,9 @@ const TRIES: usize = 16;
 /// The token of the listener.
 pub const LISTENER: Token = Token(usize::MAX);
 
+/// The token of what else is watched.
+pub const WATCHED: Token = Token(usize::MAX - 1);
+
 /// What an event told.
 #[derive(Clone, Copy)]
 pub struct Told {
@@ -208,8 +211,14 @@ pub fn next_stream(poll: &Option<Poll>, listener: &Option<TcpListener>, token: u
     take_stream(poll, listener, token)
 }
 
-/// What an event tells that has this token.
+/// What an event tells that has this token. What else is watched ends a wait, and tells of no connection.
 fn told_by(token: usize, is_readable: bool, ends: bool) -> Told {
+    if token == usize::MAX - 1 {
+        return Told {
+            ready: Ready::Elapsed,
+            ends: false,
+        };
+    }
     let ready = match u32::try_from(token) {
         Ok(conn) => {
             if is_readable || ends {

@@ -8,6 +8,7 @@ use native_board::Bell;
 use std::alloc::Global;
 use std::io;
 use std::net::Net;
+use std::os::fd::{AsRawFd, RawFd};
 use std::time::Duration;
 
 /// A bell that wakes the `PollEar` that it was made with.
@@ -37,6 +38,11 @@ impl PollEar {
         let waker = Waker::new(poll.registry(), Token(0))?;
         let events = Events::with_capacity(alloc, 1)?;
         Ok((PollEar { poll, events }, WakerBell { waker }))
+    }
+
+    /// What may be read once the bell has rung, until the ear rests again.
+    pub fn descriptor(&self) -> RawFd {
+        self.poll.as_raw_fd()
     }
 }
 

@@ -141,6 +141,10 @@ impl<N: Net + Drop> Net for Watched<N> {
         self.net.hold(conn, held)
     }
 
+    fn is_woken(&self) -> bool {
+        self.net.is_woken()
+    }
+
     fn now(&self) -> u64 {
         self.net.now()
     }

@@ -147,6 +147,9 @@ pub trait Net {
         requires { IsLive (meaning self.old) conn }
         ensures { Changes (meaning self.old) (meaning self.new) conn (held_as held) };
 
+    /// Whether a wait also ends where something else is heard of that the caller waits for. No clause says that it does.
+    fn is_woken(&self) -> bool;
+
     /// The moment.
     fn now(&self) -> u64
         ensures { result ≡ (meaning self.now).moment };

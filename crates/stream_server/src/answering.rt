@@ -94,6 +94,11 @@ impl<'a, T: Talk + Drop, A: Application> Service<T, ()> for Answering<'a, A> {
         true
     }
 
+    /// No reply is waited for, so this is never called.
+    fn until(&self, now: u64, is_woken: bool) -> u64 {
+        now
+    }
+
     ghost use Rattle.stream_server.specs.Answering.{answering_lawful};
 
     ghost lawful = { answering_lawful T.answers T.is_at T.due T.says };

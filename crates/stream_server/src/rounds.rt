@@ -294,8 +294,8 @@ fn wake_client<T: Drop, W, V: Service<T, W>, N: Net, H: Wait>(
     }
 }
 
-/// Until when a wait lasts: for a millisecond where a reply is waited for, and else until the next connection has been
-/// idle for too long.
+/// Until when a wait lasts: until the next connection has been idle for too long, or until the service says where a
+/// reply is waited for.
 fn until<T: Drop, W, V: Service<T, W>, N: Net>(
     net: &N,
     service: &V,
@@ -303,10 +303,15 @@ fn until<T: Drop, W, V: Service<T, W>, N: Net>(
 ) -> Option<u64>
     ensures { 0 < client_count table.now → IsSome result }
 {
+    let least = table.least();
     if service.is_idle() {
-        return table.least();
+        return least;
     }
-    Some(net.now().saturating_add(1))
+    let own = service.until(net.now(), net.is_woken());
+    match least {
+        None => Some(own),
+        Some(least) => Some(own.min(least)),
+    }
 }
 
 /// Waits until something happens, and goes on with the connection that was named.
@@ -406,8 +411,8 @@ fn turn<T: Drop, W, V: Service<T, W>, N: Net, H: Wait>(
 /// no byte went over it for the idle time (RFC 9112, section 9.5), unless it is held. What the others do is nothing to
 /// it.
 ///
-/// While a reply is waited for, the service is polled and the net waited for by turns, a millisecond each. After every
-/// end but `Finished` the connections that are open stay open. Nothing is promised of a net that never answers, of the
+/// While a reply is waited for, the service is polled and the net waited for by turns, until the service says each
+/// time. After every end but `Finished` the connections that are open stay open. Nothing is promised of a net that never answers, of the
 /// order in which connections are served, or of one that always has more to read: it is read as long as it gives bytes.
 pub fn serve_on<T: Drop, W, V: Service<T, W>, N: Net, H: Wait>(
     rt: &H,

@@ -148,6 +148,10 @@ pub trait Service<T, W> {
     /// Whether no reply is waited for.
     fn is_idle(&self) -> bool;
 
+    /// Until when the net may be waited for at this moment, where a reply is waited for: until that moment at most,
+    /// whether the net is woken by what `W` gives or not.
+    fn until(&self, now: u64, is_woken: bool) -> u64;
+
     /// What is said is lawful.
     ghost lawful: { (app : App) (port : ℕ) → IsLawful (side_of protocol app port) };
 

@@ -26,6 +26,9 @@ use stream_server::{Client, ClientTable, HoldRefusal, NEVER, Polled, Replied, Se
 use world::{Question, World};
 use wsgi_core::{Session, SessionPhase};
 
+/// How long a net is waited for at most that is woken by what a world gives, in milliseconds.
+const REST: u64 = 1000;
+
 /// The greatest number of a job.
 pub const LAST_JOB: u32 = u32::MAX;
 
@@ -40,6 +43,9 @@ pub struct Jobs {
     waiting: HashMap<u32, u32>,
     // For whom each was posted.
     owners: Owners,
+    // Whether the world may have a result of which nothing will be heard: a job was posted, or a result came, since
+    // it was last asked in vain.
+    stirred: bool,
 }
 
 impl Jobs {
@@ -53,6 +59,7 @@ impl Jobs {
             posted: 0,
             waiting: HashMap::new(alloc),
             owners: Owners::none(),
+            stirred: false,
         }
     }
 }
@@ -91,6 +98,11 @@ fn wanted_job(talk: &JobTalk) -> Job
             Some(job) => job,
         },
     }
+}
+
+/// Whether the answer is the result of a job.
+fn is_result(answer: &Answer) -> bool {
+    matches!(answer, Answer::Done { .. })
 }
 
 impl<W: World> Service<JobTalk, W> for Jobs {
@@ -170,6 +182,7 @@ impl<W: World> Service<JobTalk, W> for Jobs {
             return Err(HoldRefusal::Memory);
         }
         self.posted = number;
+        self.stirred = true;
         self.owners = self.owners.and(&OwnedJob {
             number,
             conn: client.conn,
@@ -192,6 +205,7 @@ impl<W: World> Service<JobTalk, W> for Jobs {
         let Ok(answer) = world.ask(Question::Poll) else {
             return Polled::Memory;
         };
+        self.stirred = is_result(&answer);
         match answer {
             Answer::Done {
                 number,
@@ -219,6 +233,17 @@ impl<W: World> Service<JobTalk, W> for Jobs {
 
     fn is_idle(&self) -> bool {
         self.waiting.is_empty()
+    }
+
+    /// A millisecond where the net is not woken by the world; and not at all where there may be more at once.
+    fn until(&self, now: u64, is_woken: bool) -> u64 {
+        if !is_woken {
+            return now.saturating_add(1);
+        }
+        if self.stirred {
+            return now;
+        }
+        now.saturating_add(REST)
     }
 
     ghost use Rattle.wsgi_native.specs.Laws as laws;
