@@ -6,6 +6,8 @@ mod connections;
 #[cfg(test)]
 mod messages;
 #[cfg(test)]
+mod relaying;
+#[cfg(test)]
 mod scgi;
 #[cfg(test)]
 mod sequences;
