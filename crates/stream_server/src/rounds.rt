@@ -303,15 +303,12 @@ fn until<T: Drop, W, V: Service<T, W>, N: Net>(
 ) -> Option<u64>
     ensures { 0 < client_count table.now → IsSome result }
 {
-    let least = table.least();
+    // Where a reply is waited for, a client is listed.
+    let least = table.least()?;
     if service.is_idle() {
-        return least;
+        return Some(least);
     }
-    let own = service.until(net.now(), net.is_woken());
-    match least {
-        None => Some(own),
-        Some(least) => Some(own.min(least)),
-    }
+    Some(service.until(net.now(), net.is_woken()).min(least))
 }
 
 /// Waits until something happens, and goes on with the connection that was named.
