@@ -1,11 +1,11 @@
 //! The environ of a request (PEP 3333): keys and values in order.
-ghost use Rattle.std.specs.Prelude.{◌≡◌, ◌++◌, ℕ, List, [], ◌∷◌, IfOk, OnOk, codes, decimal};
+ghost use Rattle.std.specs.Prelude.{◌≡◌, ◌++◌, ℕ, List, [], ◌∷◌, false, IfOk, OnOk, codes, decimal};
 ghost use Rattle.std.specs.List.{after_first, before_first, flat_map, list_any};
 ghost use Rattle.std.specs.Option.{option_copied};
 ghost use Rattle.http_header.specs.HeaderMap.{get_all};
 ghost use Rattle.percent_encoding.specs.Percent.{percent_decode};
 ghost use Rattle.http_messages.specs.Environ.{Pair, environ_of, is_in, is_content_key, is_question, is_underscore, joint, key_byte, key_of, pair_value, path_of, request_pairs};
-ghost use Rattle.http_messages.specs.Fields.{AreFields, entry_pairs, joined, texts};
+ghost use Rattle.http_messages.specs.Fields.{AreFields, entry_pairs, is_of, joined, texts};
 
 use crate::fields::{Fields, Head};
 use crate::request::{Bytes, Headers};
@@ -99,7 +99,7 @@ impl Environ {
     ) -> Result<(), AllocError>
         ensures { OnOk result (self.new ≡ self.old ++ entry_pairs class (name.now, get_all (texts fields.now) name.now)) }
     {
-        if has_underscore(name.as_bytes()) {
+        if !may_be_of(class, name.as_bytes()) || has_underscore(name.as_bytes()) {
             return Ok(());
         }
         write_key(key, name.as_bytes())?;
@@ -108,7 +108,7 @@ impl Environ {
         }
         let mut value = Vec::new(alloc);
         write_joined(&mut value, key, fields, name)?;
-        push_pair(alloc, &mut self.pairs, key, &value)
+        push_text(alloc, &mut self.pairs, key, value)
     }
 
     /// Appends to none the pairs of the request that the head asks for.
@@ -167,10 +167,33 @@ fn push_pair(
 ) -> Result<(), AllocError>
     ensures { OnOk result (pairs.new.items ≡ pairs.old.items ++ (key.now, value.now) ∷ []) }
 {
+    let text = Vec::from_slice(alloc, value)?;
+    push_text(alloc, pairs, key, text)
+}
+
+/// Appends a pair whose value stays where it stands.
+fn push_text(
+    alloc: Global,
+    pairs: &mut Vec<(Bytes, Bytes)>,
+    key: &[u8],
+    text: Vec<u8>,
+) -> Result<(), AllocError>
+    ensures { OnOk result (pairs.new.items ≡ pairs.old.items ++ (key.now, text.items) ∷ []) }
+{
     let name = Sequence::copy_of(alloc, key)?;
-    let text = Sequence::copy_of(alloc, value)?;
-    pairs.push((name, text))?;
+    pairs.push((name, Sequence::from_vec(text)))?;
     Ok(())
+}
+
+/// Whether a name of this length may have a key of this class.
+fn may_be_of(class: KeyClass, name: &[u8]) -> bool
+    ensures { result ≡ false → is_of class name.now ≡ false }
+{
+    match class {
+        KeyClass::ContentType => name.len() == 12,
+        KeyClass::ContentLength => name.len() == 14,
+        KeyClass::Other => true,
+    }
 }
 
 /// Whether the name has `_`.
