@@ -179,7 +179,6 @@ impl ByteQueue {
     pub fn empty_line_end(&mut self, most: usize) -> Option<usize>
         ensures end { result ≡ empty_line_end true (take most self.old) }
         ensures within { IfSome result (λ n. (0 < n) × (n ≤ length self.old)) }
-        ensures limit { IfSome result (λ n. n ≤ most) }
         ensures same { self.new ≡ self.old }
     {
         let limit = most.min(self.bytes.len() - self.start);
