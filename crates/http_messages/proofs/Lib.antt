@@ -4,11 +4,9 @@ pub mod ChunkLaws
 pub mod CutLaws
 pub mod CutReads
 pub mod FieldLaws
-pub mod GroupLaws
 pub mod HeadLaws
 pub mod HeadReads
 pub mod JudgeLaws
-pub mod KeyLaws
 pub mod RequestLaws
 pub mod RequestSteps
 pub mod ScanLaws

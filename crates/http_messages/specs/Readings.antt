@@ -1,5 +1,5 @@
 -- What the reading functions answer: what the bytes at the front decide, and which bytes are left.
-use Rattle.std.specs.Prelude.{◌≡◌, ⊤, ℕ, ◌<◌, ◌≤◌, List, ◌++◌, length, take, drop}
+use Rattle.std.specs.Prelude.{◌≡◌, ℕ, ◌<◌, ◌≤◌, List, ◌++◌, length, take, drop}
 use Rattle.http_messages.specs.declared.found.Found.{Found}
 use Rattle.http_messages.specs.declared.found.Found.TheVariants.{Waits, Refused, Whole}
 use Rattle.http_messages.specs.declared.found.Sight.{Sight}
@@ -17,12 +17,6 @@ abbrev pub Sees : Sight → List ℕ → Cut (List ℕ) → Type 0
 Sees Unseen bytes c = c ≡ waits
 Sees (Excluded reason) bytes c = c ≡ refused reason
 Sees (Ends n) bytes c = (n ≤ length bytes) × (c ≡ whole (take n bytes) (drop n bytes))
-
--- an end that was seen lies within so many bytes
-abbrev pub EndsWithin : ℕ → Sight → Type 0
-EndsWithin most Unseen = ⊤
-EndsWithin most (Excluded reason) = ⊤
-EndsWithin most (Ends n) = n ≤ most
 
 -- whatever bytes follow, the one reading of the old bytes is the other reading of the new ones
 abbrev pub ReadsAlike : {A : Type 0} → (List ℕ → Cut A) → (List ℕ → Cut A) → List ℕ → List ℕ → Type 0

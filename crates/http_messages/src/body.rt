@@ -47,11 +47,10 @@ fn read_counted(alloc: Global, size: usize, kept: &mut ByteQueue) -> Result<Body
     ensures { IfOk result (λ found. FindsBody (AwaitedBody.Counted size) found kept.old kept.new) }
 {
     if kept.len() < size {
+        kept.reserve(size)?;
         return Ok(BodyFound::BodyWaits(AwaitedBody::Counted(size)));
     }
-    let body = Sequence::copy_of(alloc, &kept.items()[..size])?;
-    kept.skip(size);
-    Ok(BodyFound::BodyWhole(body))
+    Ok(BodyFound::BodyWhole(kept.take_front(alloc, size)?))
 }
 
 /// Reads the line of the next chunk, after the chunks that came.

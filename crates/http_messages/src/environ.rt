@@ -1,17 +1,16 @@
 //! The environ of a request (PEP 3333): keys and values in order.
-ghost use Rattle.std.specs.Prelude.{◌≡◌, ◌++◌, ℕ, List, [], ◌∷◌, IfOk, OnOk, codes, decimal};
-ghost use Rattle.std.specs.List.{after_first, before_first, flat_map, list_any};
+ghost use Rattle.std.specs.Prelude.{◌≡◌, ◌++◌, [], ◌∷◌, false, fold, IfOk, OnOk, codes, decimal, if◌then◌else◌};
+ghost use Rattle.std.specs.List.{after_first, before_first, list_any, position};
 ghost use Rattle.std.specs.Option.{option_copied};
-ghost use Rattle.http_header.specs.HeaderMap.{get_all};
+ghost use Rattle.std.specs.Str.{bytes_eq};
 ghost use Rattle.percent_encoding.specs.Percent.{percent_decode};
-ghost use Rattle.http_messages.specs.Environ.{Pair, environ_of, is_in, is_content_key, is_question, is_underscore, joint, key_byte, key_of, pair_value, path_of, request_pairs};
-ghost use Rattle.http_messages.specs.Fields.{AreFields, entry_pairs, joined, texts};
+ghost use Rattle.http_messages.specs.Environ.{environ_of, field_pairs, is_in, is_content_key, is_question, is_underscore, joint, key_byte, key_of, pair_value, pairs_of_class, path_of, request_pairs, with_pair};
+ghost use Rattle.http_messages.specs.Fields.{is_of};
 
 use crate::fields::{Fields, Head};
 use crate::request::{Bytes, Headers};
 use crate::scan::find_byte;
 use crate::sequence::Sequence;
-use http_header::HeaderName;
 use percent_encoding::percent_decode;
 use std::alloc::{AllocError, Global};
 use std::marker::Model;
@@ -70,81 +69,100 @@ impl Environ {
         None
     }
 
-    /// Appends the keys of this class, each with the values of its name.
+    /// Adds the fields whose keys are of this class, in order; `key` is room to write them.
     fn add_fields(
-        &mut self,
-        alloc: Global,
-        fields: &Fields<'_>,
-        class: KeyClass,
-    ) -> Result<(), AllocError>
-        ensures { OnOk result (self.new ≡ self.old ++ flat_map (entry_pairs class) (texts fields.now)) }
-    {
-        let mut key = Vec::new(alloc);
-        // That the map is sound is known of one whose names are counted.
-        let _names = fields.keys_len();
-        for name in fields.keys() {
-            self.add_name(alloc, &mut key, fields, name, class)?;
-        }
-        Ok(())
-    }
-
-    /// Appends the key of the name and its values, if the key is of this class; `key` is room to write it.
-    fn add_name(
         &mut self,
         alloc: Global,
         key: &mut Vec<u8>,
         fields: &Fields<'_>,
-        name: &HeaderName,
         class: KeyClass,
     ) -> Result<(), AllocError>
-        ensures { OnOk result (self.new ≡ self.old ++ entry_pairs class (name.now, get_all (texts fields.now) name.now)) }
+        ensures { OnOk result (self.new ≡ fold with_pair self.old (pairs_of_class class (field_pairs fields.now))) }
     {
-        if has_underscore(name.as_bytes()) {
+        for place in 0..fields.len() {
+            let field = fields.at(place);
+            self.add_field(alloc, key, field.name, field.value, class)?;
+        }
+        Ok(())
+    }
+
+    /// Adds the field, if its key is of this class; `key` is room to write it.
+    fn add_field(
+        &mut self,
+        alloc: Global,
+        key: &mut Vec<u8>,
+        name: &[u8],
+        value: &[u8],
+        class: KeyClass,
+    ) -> Result<(), AllocError>
+        ensures { OnOk result (self.new ≡ (if is_of class name.now then with_pair self.old (key_of name.now, value.now) else self.old)) }
+    {
+        if !may_be_of(class, name) || has_underscore(name) {
             return Ok(());
         }
-        write_key(key, name.as_bytes())?;
+        write_key(key, name)?;
         if !is_in(class, key) {
             return Ok(());
         }
-        let mut value = Vec::new(alloc);
-        write_joined(&mut value, key, fields, name)?;
-        push_pair(alloc, &mut self.pairs, key, &value)
+        put_pair(alloc, &mut self.pairs, key, value)
     }
 
     /// Appends to none the pairs of the request that the head asks for.
     fn add_request(&mut self, alloc: Global, head: &Head<'_>) -> Result<(), AllocError>
         requires { self.old ≡ [] }
-        ensures { OnOk result ((pairs : List Pair) → AreFields head.now.fields pairs
-            → self.new ≡ environ_of head.now.port head.now.method.now head.now.target.now head.now.minor pairs) }
+        ensures { OnOk result (self.new ≡ environ_of head.now.port head.now.method.now head.now.target.now head.now.minor head.now.fields) }
     {
         push_request_pairs(alloc, &mut self.pairs, head)?;
-        self.add_fields(alloc, &head.fields, KeyClass::ContentType)?;
-        self.add_fields(alloc, &head.fields, KeyClass::ContentLength)?;
-        self.add_fields(alloc, &head.fields, KeyClass::Other)
+        let mut key = Vec::new(alloc);
+        self.add_fields(alloc, &mut key, &head.fields, KeyClass::ContentType)?;
+        self.add_fields(alloc, &mut key, &head.fields, KeyClass::ContentLength)?;
+        self.add_fields(alloc, &mut key, &head.fields, KeyClass::Other)
     }
 }
 
-/// Makes `value` the values of the name as one, in order.
-fn write_joined(
-    value: &mut Vec<u8>,
+/// Adds a pair: its value goes on behind the one that its key has.
+fn put_pair(
+    alloc: Global,
+    pairs: &mut Vec<(Bytes, Bytes)>,
     key: &[u8],
-    fields: &Fields<'_>,
-    name: &HeaderName,
+    value: &[u8],
 ) -> Result<(), AllocError>
-    ensures { OnOk result (value.new.items ≡ joined key.now (get_all (texts fields.now) name.now)) }
+    ensures { OnOk result (pairs.new.items ≡ with_pair pairs.old.items (key.now, value.now)) }
 {
-    value.clear();
-    let found = fields.get_all(name);
-    let mut values = found.iter();
-    let Some(first) = values.next() else {
-        return Ok(());
-    };
-    value.extend_from_slice(*first)?;
-    for more in values {
-        value.extend_from_slice(joint(key))?;
-        value.extend_from_slice(*more)?;
+    match find_key(pairs, key) {
+        Some(place) => lengthen(&mut pairs[place].1, joint(key), value),
+        None => push_pair(alloc, pairs, key, value),
     }
-    Ok(())
+}
+
+/// Appends to a value what stands between two, and the next.
+fn lengthen(value: &mut Bytes, joint: &[u8], more: &[u8]) -> Result<(), AllocError>
+    ensures { OnOk result (value.new ≡ value.old ++ joint.now ++ more.now) }
+{
+    value.extend_from_slice(joint)?;
+    value.extend_from_slice(more)
+}
+
+/// Where the first pair with the key stands.
+fn find_key(pairs: &[(Bytes, Bytes)], key: &[u8]) -> Option<usize>
+    ensures { result ≡ position (λ p. bytes_eq p.0 key.now) pairs.now }
+{
+    pairs
+        .iter()
+        .position(|pair| is_same_key(pair.0.items(), key))
+}
+
+/// Whether two keys are the same. Most that have one length differ in their last byte, which is looked at first.
+fn is_same_key(key: &[u8], other: &[u8]) -> bool
+    ensures { result ≡ bytes_eq key.now other.now }
+{
+    if key.len() != other.len() {
+        return false;
+    }
+    if key.len() > 0 && key[key.len() - 1] != other[key.len() - 1] {
+        return false;
+    }
+    key == other
 }
 
 /// What stands between the values of repeated fields.
@@ -171,6 +189,17 @@ fn push_pair(
     let text = Sequence::copy_of(alloc, value)?;
     pairs.push((name, text))?;
     Ok(())
+}
+
+/// Whether a name of this length may have a key of this class.
+fn may_be_of(class: KeyClass, name: &[u8]) -> bool
+    ensures { result ≡ false → is_of class name.now ≡ false }
+{
+    match class {
+        KeyClass::ContentType => name.len() == 12,
+        KeyClass::ContentLength => name.len() == 14,
+        KeyClass::Other => true,
+    }
 }
 
 /// Whether the name has `_`.
@@ -320,8 +349,7 @@ fn push_request_pairs(
 /// The environ of the request that the head asks for (PEP 3333, "environ Variables"). The path is decoded (RFC 3986,
 /// section 2.1).
 pub fn environ_of(alloc: Global, head: &Head<'_>) -> Result<Environ, AllocError>
-    ensures { IfOk result (λ environ. (pairs : List Pair) → AreFields head.now.fields pairs
-        → environ ≡ environ_of head.now.port head.now.method.now head.now.target.now head.now.minor pairs) }
+    ensures { IfOk result (λ environ. environ ≡ environ_of head.now.port head.now.method.now head.now.target.now head.now.minor head.now.fields) }
 {
     let mut environ = Environ {
         pairs: Vec::new(alloc),

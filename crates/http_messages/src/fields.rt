@@ -1,23 +1,32 @@
-//! The fields of a head, by name.
-ghost use Rattle.std.specs.Prelude.{◌≡◌, ◌+◌, ◌≤◌, ◌<◌, ◌++◌, ◌∷◌, [], List, All, IfOk, OnOk, length};
-ghost use Rattle.httparse.specs.Spans.{IsHeaderWithin, header_bytes, span_bytes};
-ghost use Rattle.http_header.specs.FieldName.{IsFieldName};
-ghost use Rattle.http_header.specs.HeaderMap.{value_count};
-ghost use Rattle.http_header.specs.Token.{lowercase};
-ghost use Rattle.http_messages.specs.declared.limits.TheConstants.{MOST_FIELDS};
-ghost use Rattle.http_messages.specs.Environ.{Pair};
-ghost use Rattle.http_messages.specs.Fields.{AreFields, fields_at, texts, with_field};
+//! The fields of a head, in order of appearance.
+ghost use Rattle.std.specs.Prelude.{◌≡◌, ◌<◌, ◌++◌, ◌∷◌, [], Some, IfOk, OnOk, length, slice_get};
+ghost use Rattle.std.specs.List.{All};
+ghost use Rattle.httparse.specs.Spans.{IsHeaderWithin};
+ghost use Rattle.http_messages.specs.Fields.{fields_at};
 ghost use Rattle.http_messages.specs.Requests.{values};
 
 use crate::request::Bytes;
+use crate::scan::eq_any_case;
 use crate::sequence::Sequence;
-use http_header::{HeaderMap, HeaderMapError, HeaderName, HeaderNameError};
 use httparse::spans::HeaderSpan;
 use std::alloc::{AllocError, Global};
+use std::marker::Model;
 
-/// The values of a head's fields by their names, which are the same in any case (RFC 9110, section 5.1). Those of
-/// one name stand in order of appearance (section 5.3). Each is a part of the head's bytes.
-pub type Fields<'a> = HeaderMap<&'a [u8]>;
+/// The fields of a head, which contracts see as their names and values. Each is a part of the head's bytes.
+#[derive(Drop)]
+pub struct Fields<'a> {
+    head: &'a [u8],
+    spans: &'a [HeaderSpan],
+}
+
+/// One field.
+#[derive(Clone, Copy, Drop)]
+pub struct Field<'a> {
+    /// Its name, which is the same in any case (RFC 9110, section 5.1).
+    pub name: &'a [u8],
+    /// Its value, without the blanks around it.
+    pub value: &'a [u8],
+}
 
 /// A head that was read (RFC 9112, sections 3 and 5), at the server's port.
 #[derive(Drop)]
@@ -34,59 +43,47 @@ pub struct Head<'a> {
     pub fields: Fields<'a>,
 }
 
-/// The name of a field, which is one of the grammar.
-fn name_of(alloc: Global, name: &[u8]) -> Result<HeaderName, AllocError>
-    requires { IsFieldName name.now }
-    ensures { IfOk result (λ found. found ≡ lowercase name.now) }
-{
-    match HeaderName::from_bytes(alloc, name) {
-        Ok(found) => Ok(found),
-        Err(HeaderNameError::OutOfMemory) => Err(AllocError),
-        // The requires says that it is a name.
-        Err(HeaderNameError::Invalid) => unreachable!(),
-    }
+impl<'a> Model for Fields<'a> {
+    ghost use Rattle.std.specs.Prelude.{ℕ, List, length};
+    ghost use Rattle.std.specs.List.{All};
+    ghost use Rattle.httparse.specs.Spans.{IsHeaderWithin};
+    ghost use Rattle.http_messages.specs.Fields.{fields_at};
+
+    ghost Value = { List (List ℕ × List ℕ) };
+
+    ghost view = { λ f. fields_at f.head.now f.spans.now };
+
+    ghost invariant = { λ f. All (IsHeaderWithin (length f.head.now)) f.spans.now };
 }
 
-/// Adds the field to those before it.
-fn add_field<'a>(
-    alloc: Global,
-    fields: &mut Fields<'a>,
-    head: &'a [u8],
-    header: HeaderSpan,
-) -> Result<(), AllocError>
-    requires within { IsHeaderWithin (length head.now) header }
-    requires named { IsFieldName (span_bytes head.now header.name) }
-    requires few { value_count fields.old < MOST_FIELDS }
-    ensures added { OnOk result (texts fields.new ≡ with_field (texts fields.old) (header_bytes head.now header)) }
-    ensures count { OnOk result (value_count fields.new ≡ value_count fields.old + 1) }
-{
-    let name = name_of(alloc, header.name.of(head))?;
-    // That the map is sound is known of one whose names are counted.
-    let _keys = fields.keys_len();
-    match fields.append(name, header.value.of(head)) {
-        Ok(_) => Ok(()),
-        Err(HeaderMapError::OutOfMemory) => Err(AllocError),
-        // The requires says that there are fewer than `MOST_FIELDS` values.
-        Err(HeaderMapError::MaxSizeReached) => unreachable!(),
+impl<'a> Fields<'a> {
+    /// The fields that the spans cover.
+    pub fn new(head: &'a [u8], spans: &'a [HeaderSpan]) -> Fields<'a>
+        requires { All (IsHeaderWithin (length head.now)) spans.now }
+        ensures { result ≡ fields_at head.now spans.now }
+    {
+        Fields { head, spans }
     }
-}
 
-/// The fields that the spans cover.
-pub fn fields_of<'a>(
-    alloc: Global,
-    head: &'a [u8],
-    headers: &[HeaderSpan],
-) -> Result<Fields<'a>, AllocError>
-    requires within { All (IsHeaderWithin (length head.now)) headers.now }
-    requires named { All (λ h. IsFieldName (span_bytes head.now h.name)) headers.now }
-    requires few { length headers.now ≤ MOST_FIELDS }
-    ensures { IfOk result (λ fields. AreFields fields (fields_at head.now headers.now)) }
-{
-    let mut fields = HeaderMap::empty(alloc);
-    for header in headers {
-        add_field(alloc, &mut fields, head, *header)?;
+    /// How many there are.
+    pub fn len(&self) -> usize
+        ensures { result ≡ length self.now }
+    {
+        self.spans.len()
     }
-    Ok(fields)
+
+    /// The field at this place, from 0.
+    pub fn at(&self, place: usize) -> Field<'a>
+        requires { place < length self.now }
+        ensures { slice_get self.now place ≡ Some (result.name.now, result.value.now) }
+    {
+        let spans = self.spans;
+        let span = spans[place];
+        Field {
+            name: span.name.of(self.head),
+            value: span.value.of(self.head),
+        }
+    }
 }
 
 /// The values of the fields of this name, in any case and in order (RFC 9110, section 5.3).
@@ -95,11 +92,14 @@ pub fn values(
     fields: &Fields<'_>,
     name: &[u8],
 ) -> Result<Sequence<Bytes>, AllocError>
-    ensures { IfOk result (λ found. (pairs : List Pair) → AreFields fields.now pairs → found ≡ values name.now pairs) }
+    ensures { IfOk result (λ found. found ≡ values name.now fields.now) }
 {
     let mut found = Sequence::new(alloc);
-    for value in fields.get_all(name) {
-        push_copy(alloc, &mut found, *value)?;
+    for place in 0..fields.len() {
+        let field = fields.at(place);
+        if eq_any_case(field.name, name) {
+            push_copy(alloc, &mut found, field.value)?;
+        }
     }
     Ok(found)
 }

@@ -2,10 +2,10 @@
 ghost use Rattle.std.specs.Prelude.{◌≡◌, ◌<◌, ◌≤◌, ℕ, List, length, drop, Some, IfOk, IfSome, IfNone};
 ghost use Rattle.httparse.specs.Grammar.{RequestHead};
 ghost use Rattle.httparse.specs.Spans.{IsRequestAt, IsRequestWithin};
-ghost use Rattle.http_messages.specs.declared.limits.TheConstants.{MOST_FIELDS, MOST_HEAD};
+ghost use Rattle.http_messages.specs.declared.limits.TheConstants.{MOST_FIELDS};
 ghost use Rattle.http_messages.specs.Cuts.{drop_empty_lines, empty_line};
 ghost use Rattle.http_messages.specs.Head.{request_head};
-ghost use Rattle.http_messages.specs.Readings.{EndsWithin, Finds, Sees};
+ghost use Rattle.http_messages.specs.Readings.{Finds, Sees};
 ghost use Rattle.http_messages.specs.Requests.{head_at, request_at};
 
 use crate::found::{Found, Sight};
@@ -38,7 +38,6 @@ fn empty_lines_len(bytes: &[u8]) -> usize
 /// Where the head at the front ends.
 fn head_end(kept: &mut ByteQueue) -> Sight
     ensures sees { Sees result kept.old (head_at kept.old) }
-    ensures short { EndsWithin MOST_HEAD result }
     ensures same { kept.new ≡ kept.old }
 {
     let Some(_) = kept.line_end(MOST_FIRST_LINE) else {

@@ -1,18 +1,15 @@
 //! What a head asks for.
-ghost use Rattle.std.specs.Prelude.{◌≡◌, ◌≤◌, ◌==◌, ◌&&◌, List, IfOk, None, Some, codes, length, reverse, if◌then◌else◌};
+ghost use Rattle.std.specs.Prelude.{◌≡◌, ◌≤◌, ◌==◌, ◌&&◌, IfOk, None, Some, codes, length, reverse, if◌then◌else◌};
 ghost use Rattle.std.specs.List.{list_any};
 ghost use Rattle.std.specs.Str.{bytes_eq, str_eq_ignore_ascii_case};
 ghost use Rattle.std.specs.Str.Parse.{digits_value};
 ghost use Rattle.httparse.specs.Grammar.{is_ows, skip_ows, trim_ows};
-ghost use Rattle.http_messages.specs.declared.limits.TheConstants.{MOST_HEAD};
 ghost use Rattle.http_messages.specs.Cuts.{empty_line};
-ghost use Rattle.http_messages.specs.Environ.{Pair};
-ghost use Rattle.http_messages.specs.Fields.{AreFields};
 ghost use Rattle.http_messages.specs.Head.{request_head};
 ghost use Rattle.http_messages.specs.Requests.{announces_body, coded_by, does_persist, expects, framing_by, framing_of, has_member, is_allowed_target, is_length, judged, on_framing, request_of, sized_by};
 
 use crate::environ::environ_of;
-use crate::fields::{Fields, Head, fields_of, values};
+use crate::fields::{Fields, Head, values};
 use crate::head::read_head;
 use crate::limits::{MOST_BODY, MOST_FIELDS, MOST_LENGTH_DIGITS};
 use crate::refusal::Refusal;
@@ -161,7 +158,7 @@ fn announces_body(framing: Framing) -> bool
 /// Whether the client wants the connection to stay (RFC 9112, section 9.3): in HTTP/1.1 unless a Connection field has
 /// `close`, in HTTP/1.0 where one has `keep-alive`.
 fn does_persist(alloc: Global, head: &Head<'_>) -> Result<bool, AllocError>
-    ensures { IfOk result (λ persists. (pairs : List Pair) → AreFields head.now.fields pairs → persists ≡ does_persist head.now.minor pairs) }
+    ensures { IfOk result (λ persists. persists ≡ does_persist head.now.minor head.now.fields) }
 {
     let options = values(alloc, &head.fields, b"Connection")?;
     if head.minor == 1 {
@@ -173,7 +170,7 @@ fn does_persist(alloc: Global, head: &Head<'_>) -> Result<bool, AllocError>
 
 /// Whether an Expect field is `100-continue` (RFC 9110, section 10.1.1).
 fn expects(alloc: Global, fields: &Fields<'_>) -> Result<bool, AllocError>
-    ensures { IfOk result (λ expected. (pairs : List Pair) → AreFields fields.now pairs → expected ≡ expects pairs) }
+    ensures { IfOk result (λ expected. expected ≡ expects fields.now) }
 {
     let expectations = values(alloc, fields, b"Expect")?;
     Ok(is_expected(&expectations))
@@ -205,7 +202,7 @@ fn is_head(method: &[u8]) -> bool
 
 /// How the fields frame the body (RFC 9112, section 6.3).
 fn framing_of(alloc: Global, head: &Head<'_>) -> Result<Result<Framing, Refusal>, AllocError>
-    ensures { IfOk result (λ framing. (pairs : List Pair) → AreFields head.now.fields pairs → framing ≡ framing_of head.now.minor pairs) }
+    ensures { IfOk result (λ framing. framing ≡ framing_of head.now.minor head.now.fields) }
 {
     let lengths = values(alloc, &head.fields, b"Content-Length")?;
     let codings = values(alloc, &head.fields, b"Transfer-Encoding")?;
@@ -217,8 +214,7 @@ fn framed_request(
     alloc: Global,
     head: &Head<'_>,
 ) -> Result<Result<HttpRequest, Refusal>, AllocError>
-    ensures { IfOk result (λ judged. (pairs : List Pair) → AreFields head.now.fields pairs
-        → judged ≡ on_framing head.now.port head.now.method.now head.now.target.now head.now.minor pairs (framing_of head.now.minor pairs)) }
+    ensures { IfOk result (λ judged. judged ≡ on_framing head.now.port head.now.method.now head.now.target.now head.now.minor head.now.fields (framing_of head.now.minor head.now.fields)) }
 {
     let framing = framing_of(alloc, head)?;
     match framing {
@@ -241,8 +237,7 @@ fn framed_request(
 
 /// The request that the head asks for, or the reason to refuse it.
 fn request_of(alloc: Global, head: &Head<'_>) -> Result<Result<HttpRequest, Refusal>, AllocError>
-    ensures { IfOk result (λ judged. (pairs : List Pair) → AreFields head.now.fields pairs
-        → judged ≡ request_of head.now.port head.now.method.now head.now.target.now head.now.minor pairs) }
+    ensures { IfOk result (λ judged. judged ≡ request_of head.now.port head.now.method.now head.now.target.now head.now.minor head.now.fields) }
 {
     if is_allowed_target(head.target) {
         framed_request(alloc, head)
@@ -257,15 +252,14 @@ pub fn request_of_head(
     port: u16,
     head: &[u8],
 ) -> Result<Result<HttpRequest, Refusal>, AllocError>
-    requires begun { empty_line head.now ≡ 0 }
-    requires short { length head.now ≤ MOST_HEAD }
+    requires { empty_line head.now ≡ 0 }
     ensures { IfOk result (λ found. found ≡ judged port (request_head head.now)) }
 {
     let mut headers = [EMPTY_HEADER_SPAN; MOST_FIELDS];
     match read_head(head, &mut headers) {
         None => Ok(Err(Refusal::BadRequest)),
         Some(spans) => {
-            let fields = fields_of(alloc, head, &headers[..spans.headers])?;
+            let fields = Fields::new(head, &headers[..spans.headers]);
             let head = Head {
                 port,
                 method: spans.method.of(head),

@@ -1,10 +1,17 @@
 //! Bytes in the order in which they came.
-ghost use Rattle.std.specs.Prelude.{◌≡◌, ◌<◌, ◌≤◌, [], ◌++◌, length, take, drop, true, IfSome, OnOk, OnErr};
+ghost use Rattle.std.specs.Prelude.{◌≡◌, ◌<◌, ◌≤◌, ◌-◌, [], ◌++◌, length, take, drop, true, IfOk, IfSome, OnOk, OnErr};
 ghost use Rattle.http_messages.specs.Cuts.{line_end, empty_line_end};
 
+use crate::request::Bytes;
 use crate::scan::{LinePlace, scan_empty_line, scan_line};
+use crate::sequence::Sequence;
 use std::alloc::{AllocError, Global};
 use std::marker::Model;
+use std::mem;
+
+/// From how many bytes on room is given back where no byte is left, and bytes that are all are handed on where they
+/// stand.
+const LARGE: usize = 65536;
 
 /// Bytes that are appended at the end and taken off the front, which contracts see as their list. A
 /// search for a line's end goes on where the last one stopped, and a byte is moved at most once for
@@ -27,6 +34,21 @@ impl Model for ByteQueue {
     ghost view = { λ s. drop s.start s.bytes.items };
 
     ghost invariant = { λ s. IsScanned s.bytes.items s.start s.line s.empty s.place };
+}
+
+/// Takes bytes off the front. There are no fewer of them than of those behind, so that these are copied as a whole.
+fn drop_front(bytes: &mut Vec<u8>, n: usize)
+    requires within { n ≤ length bytes.old.items }
+    requires half { length bytes.old.items - n ≤ n }
+    ensures { bytes.new.items ≡ drop n bytes.old.items }
+{
+    let left = bytes.len() - n;
+    let (front, back) = bytes.as_mut_slice().split_at_mut(n);
+    front[..left].copy_from_slice(back);
+    bytes.truncate(left);
+    if left == 0 && bytes.capacity() >= LARGE {
+        bytes.shrink_to(0);
+    }
 }
 
 impl ByteQueue {
@@ -78,6 +100,48 @@ impl ByteQueue {
         }
     }
 
+    /// Makes room for so many bytes in all, which are then appended without a move.
+    pub fn reserve(&mut self, len: usize) -> Result<(), AllocError>
+        ensures { self.new ≡ self.old }
+    {
+        if self.bytes.capacity() - self.start < len {
+            self.bytes.drain(..self.start);
+            self.start = 0;
+            self.bytes
+                .reserve_exact(len.saturating_sub(self.bytes.len()))?;
+        }
+        Ok(())
+    }
+
+    /// Takes so many bytes off the front. Where they are many and all, they are handed on where they stand. After an
+    /// `Err` nothing has changed.
+    pub fn take_front(&mut self, alloc: Global, n: usize) -> Result<Bytes, AllocError>
+        requires { n ≤ length self.old }
+        ensures front { IfOk result (λ front. front ≡ take n self.old) }
+        ensures rest { OnOk result (self.new ≡ drop n self.old) }
+        ensures err { OnErr result (self.new ≡ self.old) }
+    {
+        if n >= LARGE && n == self.len() {
+            return Ok(Sequence::from_vec(self.take_all(alloc)));
+        }
+        let front = Sequence::copy_of(alloc, &self.items()[..n])?;
+        self.skip(n);
+        Ok(front)
+    }
+
+    /// Takes all bytes.
+    fn take_all(&mut self, alloc: Global) -> Vec<u8>
+        ensures all { result.items ≡ self.old }
+        ensures none { self.new ≡ [] }
+    {
+        self.bytes.drain(..self.start);
+        self.start = 0;
+        self.line = 0;
+        self.empty = 0;
+        self.place = LinePlace::Start;
+        mem::replace(&mut self.bytes, Vec::new(alloc))
+    }
+
     /// Takes bytes off the front.
     pub fn skip(&mut self, n: usize)
         requires { n ≤ length self.old }
@@ -89,7 +153,7 @@ impl ByteQueue {
             self.empty = 0;
             self.place = LinePlace::Start;
             if self.start > self.bytes.len() - self.start {
-                self.bytes.drain(..self.start);
+                drop_front(&mut self.bytes, self.start);
                 self.start = 0;
             }
         }
@@ -115,7 +179,6 @@ impl ByteQueue {
     pub fn empty_line_end(&mut self, most: usize) -> Option<usize>
         ensures end { result ≡ empty_line_end true (take most self.old) }
         ensures within { IfSome result (λ n. (0 < n) × (n ≤ length self.old)) }
-        ensures limit { IfSome result (λ n. n ≤ most) }
         ensures same { self.new ≡ self.old }
     {
         let limit = most.min(self.bytes.len() - self.start);

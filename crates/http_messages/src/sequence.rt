@@ -102,7 +102,7 @@ impl Sequence<u8> {
         ensures { IfOk result (λ copy. copy ≡ bytes.now) }
     {
         Ok(Sequence {
-            items: bytes.to_vec(alloc)?,
+            items: Vec::from_slice(alloc, bytes)?,
         })
     }
 

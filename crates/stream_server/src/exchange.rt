@@ -4,8 +4,8 @@ ghost use Rattle.stream_net.specs.Net.{IsLive, connection_at};
 ghost use Rattle.stream_server.specs.Steps.{OnlyAt, StepLeaves};
 
 use crate::client::Client;
+use crate::limits::MOST_READ;
 use crate::service::{Replied, Service};
-use gv_io::MOST_PIECE;
 use std::sync::Wait;
 use stream_net::{Net, ReadEnd, WriteEnd};
 use wsgi_core::SessionPhase;
@@ -69,7 +69,7 @@ fn receive<T: Drop, W, V: Service<T, W>, N: Net>(
     ensures leaves { StepLeaves V.protocol V.fits service.now result idle (connection_at (N.meaning net.old).connections client.old.conn) client.old (connection_at (N.meaning net.new).connections client.old.conn) client.new }
     ensures asks_not { result ≡ Step.Asks → ⊥ }
 {
-    let mut buffer = [0; MOST_PIECE];
+    let mut buffer = [0; MOST_READ];
     match net.read(client.conn, &mut buffer) {
         ReadEnd::Got(count) => {
             client.deadline = net.now().saturating_add(idle);

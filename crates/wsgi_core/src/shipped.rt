@@ -77,7 +77,7 @@ fn route_of(path: &[u8]) -> Route
 fn copied(alloc: Global, bytes: &[u8]) -> Result<Bytes, AllocError>
     ensures { IfOk result (λ copy. copy ≡ bytes.now) }
 {
-    Ok(Sequence::from_vec(bytes.to_vec(alloc)?))
+    Ok(Sequence::from_vec(Vec::from_slice(alloc, bytes)?))
 }
 
 /// Appends a header.

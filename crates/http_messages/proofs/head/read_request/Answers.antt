@@ -3,10 +3,8 @@ use Rattle.http_messages.specs.Cuts.{waits, whole, empty_line, drop_empty_lines}
 use Rattle.http_messages.specs.Head.{request_head}
 use Rattle.http_messages.specs.Readings.{ReadsAlike}
 use Rattle.http_messages.specs.Requests.{judged, request_at}
-use Rattle.http_messages.proofs.FieldLaws.{taken_few}
 use Rattle.http_messages.proofs.RequestSteps.{no_line_in, request_waits, request_excluded, request_judged}
 use Rattle.http_messages.proofs.head.read_request.Goals as goal
-use Rattle.http_messages.specs.declared.limits.TheConstants.{MOST_HEAD}
 
 dropped : (blank : ℕ) (items kept mid : List ℕ) → items ≡ kept → drop blank items ≡ drop_empty_lines items → mid ≡ drop blank kept → mid ≡ drop_empty_lines kept
 dropped blank items kept mid e rest skipped = let P : List ℕ → Type 0 = λ l. drop blank l ≡ drop_empty_lines l in skipped ∙ subst P e rest
@@ -17,10 +15,7 @@ fresh_there blank items kept mid e none skipped = ap empty_line (skipped ∙ ap 
 pub request_of_head-requires : goal.request_of_head-requires
 request_of_head-requires c =
     let fresh = fresh_there c.empty_lines_len-blank.result c.items.result.now c.args.kept.now c.skip.new.self c.items.ensures c.empty_lines_len-blank.ensures.line c.skip.ensures in
-    record {
-      begun = ap (λ (l : List ℕ). empty_line (take c.in-Ends.end l)) (c.items-in-Ends.ensures ∙ c.head_end.ensures.same) ∙ no_line_in c.in-Ends.end c.skip.new.self fresh;
-      short = taken_few MOST_HEAD c.in-Ends.end c.items-in-Ends.result.now c.in-Ends.ensures.short;
-    }
+    ap (λ (l : List ℕ). empty_line (take c.in-Ends.end l)) (c.items-in-Ends.ensures ∙ c.head_end.ensures.same) ∙ no_line_in c.in-Ends.end c.skip.new.self fresh
 
 pub returns-in-Unseen : goal.returns-in-Unseen
 returns-in-Unseen c =

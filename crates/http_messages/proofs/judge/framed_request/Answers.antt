@@ -3,6 +3,6 @@ use Rattle.http_messages.specs.Requests.{on_framing}
 use Rattle.http_messages.proofs.judge.framed_request.Goals as goal
 
 pub returns-in-Err : goal.returns-in-Err
-returns-in-Err c = λ pairs are.
+returns-in-Err c =
     let head = c.args.head.now in
-    sym (ap (on_framing head.port head.method.now head.target.now head.minor pairs) (sym (c.in_ok-framing.ensures pairs are) ∙ c.in-Err.is))
+    sym (ap (on_framing head.port head.method.now head.target.now head.minor head.fields) (sym c.in_ok-framing.ensures ∙ c.in-Err.is))
