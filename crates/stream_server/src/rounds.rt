@@ -1,5 +1,5 @@
 //! The server's loop.
-ghost use Rattle.std.specs.Prelude.{◌≡◌, ◌≢◌, ℕ, ◌+◌, ◌<◌, ◌≤◌, Some, None, Ok, Err, true, false, [], Option, length, IsSome, OnOk, OnErr, IfOk};
+ghost use Rattle.std.specs.Prelude.{◌≡◌, ◌≢◌, ◌⊎◌, ℕ, ◌+◌, ◌<◌, ◌≤◌, Some, None, Ok, Err, true, false, [], Option, length, IsSome, OnOk, OnErr, IfOk, IfSome};
 ghost use Rattle.std.specs.List.{All};
 ghost use Rattle.gv_values.specs.Counts.{HasRisen};
 ghost use Rattle.stream_net.specs.Net.{IsFresh, IsLive};
@@ -8,7 +8,8 @@ ghost use Rattle.stream_server.specs.Running.{AsksInVain, IsRunning, IsRunningBu
 ghost use Rattle.stream_server.specs.Keeping.{Fares, HasAccepted, IsStill, Keeps};
 ghost use Rattle.stream_server.specs.Serving.{IsAllServed};
 ghost use Rattle.stream_server.specs.Ranges.{IsInRange};
-ghost use Rattle.stream_server.specs.Tables.{IsListed, SeenTable, client_count};
+ghost use Rattle.stream_server.specs.Tables.{EachDeadline, IsListed, SeenTable, client_count};
+ghost use Rattle.stream_server.specs.declared.client.TheConstants.{NEVER};
 ghost use Rattle.stream_server.specs.declared.client.Client.{Client};
 
 use crate::client::{Client, NEVER};
@@ -301,7 +302,8 @@ fn until<T: Drop, W, V: Service<T, W>, N: Net>(
     service: &V,
     table: &ClientTable<T>,
 ) -> Option<u64>
-    ensures { 0 < client_count table.now → IsSome result }
+    ensures ends { 0 < client_count table.now → IsSome result }
+    ensures soon { IfSome result (λ at. EachDeadline (λ deadline. (at ≤ deadline) ⊎ (at ≤ (N.meaning net.now).moment + 1)) table.now) }
 {
     if service.is_idle() {
         return table.least();
@@ -354,6 +356,8 @@ fn close_idle<T: Drop, W, V: Service<T, W>, N: Net, H>(
     requires { IsRunning V.protocol (V.fits service.now world.now) (V.tied service.now world.now) serving.now.terms (N.meaning net.old) table.old }
     ensures running { IsRunning V.protocol (V.fits service.now world.now) (V.tied service.now world.now) serving.now.terms (N.meaning net.new) table.new }
     ensures keeps { Keeps (N.meaning net.old) (N.meaning net.new) }
+    // Nobody whose time is over is left.
+    ensures closed { EachDeadline (λ deadline. deadline < NEVER → (N.meaning net.old).moment < deadline) table.new }
 {
     // Whose deadline is `NEVER` is not due even at the greatest moment.
     let now = net.now().min(NEVER - 1);
