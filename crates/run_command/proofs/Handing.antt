@@ -42,24 +42,32 @@ ahead_later whole ran after out0 h1 h2 same ahead kept before last e =
 
 -- ---- whether native workers were begun
 
--- a script asks none
-pub began_script : (waits : Bool) (options : RunOptions) (tick : ℕ) (s : Scenario) (before after : WorldMeaning) (out0 out1 handed1 : Option (List ℕ)) (faults0 faults1 : ℕ) → options.world ≡ RunWorld.Script tick →
-    BeganSo waits options s before after out0 out1 handed1 faults0 faults1
-began_script waits options tick s before after out0 out1 handed1 faults0 faults1 script =
-    inl (record { native = λ workers e. absurd (no_native workers (sym script ∙ e)); held = λ workers e. absurd (no_held workers (sym script ∙ e)) })
-  where
-    no_native : (workers : ℕ) → RunWorld.Script tick ≡ RunWorld.Native workers → ⊥
-    no_native workers z = cc z
+native_is_not_held : (a b : ℕ) → RunWorld.Native a ≡ RunWorld.Held b → ⊥
+native_is_not_held a b z = cc z
 
-    no_held : (workers : ℕ) → RunWorld.Script tick ≡ RunWorld.Held workers → ⊥
-    no_held workers z = cc z
+held_is_not_native : (a b : ℕ) → RunWorld.Held a ≡ RunWorld.Native b → ⊥
+held_is_not_native a b z = cc z
+
+script_is_not_native : (a b : ℕ) → RunWorld.Script a ≡ RunWorld.Native b → ⊥
+script_is_not_native a b z = cc z
+
+script_is_not_held : (a b : ℕ) → RunWorld.Script a ≡ RunWorld.Held b → ⊥
+script_is_not_held a b z = cc z
+
+memory_is_no_write_fault : EngineEnd.Memory ≡ EngineEnd.WriteFault → ⊥
+memory_is_no_write_fault z = cc z
 
 -- where memory ran out no write failed
 none_failed : (end : EngineEnd) (faults0 faults1 : ℕ) → end ≡ EngineEnd.Memory → Counts (end ≡ EngineEnd.WriteFault) faults0 faults1 → faults1 ≡ faults0
-none_failed end faults0 faults1 is counts = counts.unfailed (λ z. no (sym is ∙ z))
-  where
-    no : EngineEnd.Memory ≡ EngineEnd.WriteFault → ⊥
-    no z = cc z
+none_failed end faults0 faults1 is counts = counts.unfailed (λ z. memory_is_no_write_fault (sym is ∙ z))
+
+-- a script asks none
+pub began_script : (waits : Bool) (options : RunOptions) (tick : ℕ) (s : Scenario) (before after : WorldMeaning) (out0 out1 handed1 : Option (List ℕ)) (faults0 faults1 : ℕ) → options.world ≡ RunWorld.Script tick →
+    BeganSo waits options s before after out0 out1 handed1 faults0 faults1
+began_script waits options tick s before after out0 out1 handed1 faults0 faults1 script = inl (record {
+  native = λ workers e. absurd (script_is_not_native tick workers (sym script ∙ e));
+  held = λ workers e. absurd (script_is_not_held tick workers (sym script ∙ e));
+})
 
 -- the engine that is prepared with these options has asked them as the options say
 pub began_natively : (waits : Bool) (options : RunOptions) (workers : ℕ) (s : Scenario) (before after : WorldMeaning) (engine : Prepared) (end : EngineEnd) (out0 out1 handed1 : Option (List ℕ)) (faults0 faults1 : ℕ) →
@@ -67,30 +75,17 @@ pub began_natively : (waits : Bool) (options : RunOptions) (workers : ℕ) (s : 
     IsNativeAhead waits (run engine.scenario engine.turns engine.moves) after out0 out1 handed1 ⊎ ((after ≡ before) × HadNoMemory end out0 out1)
     → BeganSo waits options s before after out0 out1 handed1 faults0 faults1
 began_natively waits options workers s before after engine end out0 out1 handed1 faults0 faults1 is natively counts (inl h) =
-    inl (record {
-      native = λ others e. subst (λ (p : Prepared). IsNativeAhead waits (run p.scenario p.turns p.moves) after out0 out1 handed1) is h;
-      held = λ others e. absurd (other_world others (sym natively ∙ e));
-    })
-  where
-    other_world : (others : ℕ) → RunWorld.Native workers ≡ RunWorld.Held others → ⊥
-    other_world others z = cc z
-began_natively waits options workers s before after engine end out0 out1 handed1 faults0 faults1 is natively counts (inr u) =
-    inr (record { unwritten = u.1.0; untried = none_failed end faults0 faults1 u.1.1 counts; kept = λ others e. u.0 })
+    let P : Prepared → Type 0 = λ p. IsNativeAhead waits (run p.scenario p.turns p.moves) after out0 out1 handed1 in
+    inl (record { native = λ others e. subst P is h; held = λ others e. absurd (native_is_not_held workers others (sym natively ∙ e)) })
+began_natively waits options workers s before after engine end out0 out1 handed1 faults0 faults1 is natively counts (inr (same, u)) =
+    inr (record { unwritten = u.0; untried = none_failed end faults0 faults1 u.1 counts; kept = λ others e. same })
 
 -- so has it with held order
 pub began_held : (waits : Bool) (options : RunOptions) (workers : ℕ) (s : Scenario) (before after : WorldMeaning) (engine : Prepared) (end : EngineEnd) (out0 out1 handed1 : Option (List ℕ)) (faults0 faults1 : ℕ) →
     engine ≡ record { scenario = s; turns = options.turns; moves = options.moves } → options.world ≡ RunWorld.Held workers → Counts (end ≡ EngineEnd.WriteFault) faults0 faults1 →
     IsHeldAhead waits (run engine.scenario engine.turns engine.moves) after out0 out1 handed1 ⊎ HadNoMemory end out0 out1 → BeganSo waits options s before after out0 out1 handed1 faults0 faults1
 began_held waits options workers s before after engine end out0 out1 handed1 faults0 faults1 is held counts (inl h) =
-    inl (record {
-      native = λ others e. absurd (other_world others (sym held ∙ e));
-      held = λ others e. subst (λ (p : Prepared). IsHeldAhead waits (run p.scenario p.turns p.moves) after out0 out1 handed1) is h;
-    })
-  where
-    other_world : (others : ℕ) → RunWorld.Held workers ≡ RunWorld.Native others → ⊥
-    other_world others z = cc z
+    let P : Prepared → Type 0 = λ p. IsHeldAhead waits (run p.scenario p.turns p.moves) after out0 out1 handed1 in
+    inl (record { native = λ others e. absurd (held_is_not_native workers others (sym held ∙ e)); held = λ others e. subst P is h })
 began_held waits options workers s before after engine end out0 out1 handed1 faults0 faults1 is held counts (inr u) =
-    inr (record { unwritten = u.0; untried = none_failed end faults0 faults1 u.1 counts; kept = λ others e. absurd (other_world others (sym held ∙ e)) })
-  where
-    other_world : (others : ℕ) → RunWorld.Held workers ≡ RunWorld.Native others → ⊥
-    other_world others z = cc z
+    inr (record { unwritten = u.0; untried = none_failed end faults0 faults1 u.1 counts; kept = λ others e. absurd (held_is_not_native workers others (sym held ∙ e)) })
