@@ -158,6 +158,9 @@ connection_decided end v s old new is h = let P : Verdict → Type 0 = λ x. Dec
     by ConnectionEnd.WriteFault h = h
     by ConnectionEnd.Memory h = h
 
+pub text_is_no_connection : (text : TextCommand) (gateway : GatewayKind) → OfflineCommand.Text text ≡ OfflineCommand.Wsgi gateway → ⊥
+text_is_no_connection text gateway e = cc e
+
 pub of_connection : (end : ConnectionEnd) (v : Verdict) (given gateway : GatewayKind) (app : App) (in0 in1 out0 out1 : Option (List ℕ)) → v ≡ verdict_of_connection end → OfflineCommand.Wsgi gateway ≡ OfflineCommand.Wsgi given
     → Exchanged end (answers_by given) app no_port in0 in1 out0 out1 → IsOfConnection v gateway app in0 in1 out0 out1
 of_connection end v given gateway app in0 in1 out0 out1 is wanted h = record {

@@ -46,31 +46,31 @@ serving_hands end w0 h0 w1 h1 f h5 h7 e = f e (λ z. h5 (ap (λ x. verdict_statu
 -- ---- whether native workers were begun
 
 -- so has the command that asks for this run
-pub scenario_began : (waits : Bool) (command : TextCommand) (options : RunOptions) (s : Scenario) (before after : WorldMeaning) (out0 out1 handed1 : Option (List ℕ)) → command ≡ TextCommand.Run options
-    → BeganSo waits options s before after out0 out1 handed1 → (wanted : RunOptions) → command ≡ TextCommand.Run wanted → BeganSo waits wanted s before after out0 out1 handed1
-scenario_began waits command options s before after out0 out1 handed1 is h wanted e =
-    subst (λ (o : RunOptions). BeganSo waits o s before after out0 out1 handed1) (same_options options wanted (sym is ∙ e)) h
+pub scenario_began : (waits : Bool) (command : TextCommand) (options : RunOptions) (s : Scenario) (before after : WorldMeaning) (out0 out1 handed1 : Option (List ℕ)) (faults0 faults1 : ℕ) → command ≡ TextCommand.Run options
+    → BeganSo waits options s before after out0 out1 handed1 faults0 faults1 → (wanted : RunOptions) → command ≡ TextCommand.Run wanted → BeganSo waits wanted s before after out0 out1 handed1 faults0 faults1
+scenario_began waits command options s before after out0 out1 handed1 faults0 faults1 is h wanted e =
+    subst (λ (o : RunOptions). BeganSo waits o s before after out0 out1 handed1 faults0 faults1) (same_options options wanted (sym is ∙ e)) h
   where
     same_options : (a b : RunOptions) → TextCommand.Run a ≡ TextCommand.Run b → a ≡ b
     same_options a b e = cc e
 
-pub text_began : (waits : Bool) (command : TextCommand) (bytes : List ℕ) (s : Scenario) (before after : WorldMeaning) (out0 out1 handed1 : Option (List ℕ)) → judged_text bytes ≡ Ok s
-    → ((options : RunOptions) → command ≡ TextCommand.Run options → BeganSo waits options s before after out0 out1 handed1) → BeganText waits command bytes before after out0 out1 handed1
-text_began waits command bytes s before after out0 out1 handed1 j h = λ options t e k.
-    subst (λ (x : Scenario). BeganSo waits options x before after out0 out1 handed1) (same s t (sym j ∙ k)) (h options e)
+pub text_began : (waits : Bool) (command : TextCommand) (bytes : List ℕ) (s : Scenario) (before after : WorldMeaning) (out0 out1 handed1 : Option (List ℕ)) (faults0 faults1 : ℕ) → judged_text bytes ≡ Ok s
+    → ((options : RunOptions) → command ≡ TextCommand.Run options → BeganSo waits options s before after out0 out1 handed1 faults0 faults1) → BeganText waits command bytes before after out0 out1 handed1 faults0 faults1
+text_began waits command bytes s before after out0 out1 handed1 faults0 faults1 j h = λ options t e k.
+    subst (λ (x : Scenario). BeganSo waits options x before after out0 out1 handed1 faults0 faults1) (same s t (sym j ∙ k)) (h options e)
   where
     same : (a b : Scenario) → ◌≡◌ {A = Result Scenario Place} (Ok a) (Ok b) → a ≡ b
     same a b z = cc z
 
--- native workers are as they were
-pub none_began : (waits : Bool) (command : TextCommand) (bytes : List ℕ) (before : WorldMeaning) (out0 out1 handed1 : Option (List ℕ)) → BeganText waits command bytes before before out0 out1 handed1
-none_began waits command bytes before out0 out1 handed1 = λ options s e k. inr refl
+-- nothing was done
+pub none_began : (waits : Bool) (command : TextCommand) (bytes : List ℕ) (before : WorldMeaning) (out handed : Option (List ℕ)) (faults : ℕ) → BeganText waits command bytes before before out out handed faults faults
+none_began waits command bytes before out handed faults = λ options s e k. inr (record { unwritten = refl; untried = refl; kept = λ workers natively. refl })
 
 -- the command is this one
-pub command_began : (waits : Bool) (given text : TextCommand) (bytes : List ℕ) (before after : WorldMeaning) (out0 out1 handed1 : Option (List ℕ)) → OfflineCommand.Text text ≡ OfflineCommand.Text given
-    → BeganText waits given bytes before after out0 out1 handed1 → BeganText waits text bytes before after out0 out1 handed1
-command_began waits given text bytes before after out0 out1 handed1 is h =
-    subst (λ (t : TextCommand). BeganText waits t bytes before after out0 out1 handed1) (same given text (sym is)) h
+pub command_began : (waits : Bool) (given text : TextCommand) (bytes : List ℕ) (before after : WorldMeaning) (out0 out1 handed1 : Option (List ℕ)) (faults0 faults1 : ℕ) → OfflineCommand.Text text ≡ OfflineCommand.Text given
+    → BeganText waits given bytes before after out0 out1 handed1 faults0 faults1 → BeganText waits text bytes before after out0 out1 handed1 faults0 faults1
+command_began waits given text bytes before after out0 out1 handed1 faults0 faults1 is h =
+    subst (λ (t : TextCommand). BeganText waits t bytes before after out0 out1 handed1 faults0 faults1) (same given text (sym is)) h
   where
     same : (a b : TextCommand) → OfflineCommand.Text a ≡ OfflineCommand.Text b → a ≡ b
     same a b z = cc z

@@ -1,5 +1,5 @@
 -- Of words that name `serve`, and of what a server came to.
-use Rattle.std.proofs.Common.{◌≡◌, ◌≢◌, ◌⊎◌, inl, inr, refl, ap, sym, ◌∙◌, ℕ, ◌<◌, ◌≤◌, false, List, Option, Some, None, IsSome, option_and_then, subst, arith}
+use Rattle.std.proofs.Common.{◌≡◌, ◌≢◌, ◌⊎◌, ◌↔◌, inl, inr, refl, ap, sym, ◌∙◌, ℕ, ◌<◌, ◌≤◌, false, List, Option, Some, None, IsSome, option_and_then, subst, arith}
 use Rattle.gv_values.specs.Counts.{HasRisen}
 use Rattle.gv_io.specs.Streams.{appended}
 use Rattle.command_words.specs.Ranges.{AreAnswersInRange, IsInRange as IsCommandInRange}
@@ -12,7 +12,9 @@ use Rattle.command_words.specs.declared.command.ServeAnswers.{ServeAnswers}
 use Rattle.command_words.specs.declared.command.ServeOptions.{ServeOptions}
 use Rattle.wsgi_core.specs.Applications.{App}
 use Rattle.wsgi_core.specs.Session.{answers}
+use Rattle.world.specs.LegalLogs.{HasLegalLog}
 use Rattle.world.specs.Outside.{WorldMeaning as World}
+use Rattle.world_rules.specs.declared.question.LogEntry.{LogEntry}
 use Rattle.stream_net.specs.Net.{Connection, IsAtRest, IsFresh, NetMeaning}
 use Rattle.stream_server.specs.declared.limits.Limits.{Limits}
 use Rattle.stream_server.specs.Ranges.{IsInRange}
@@ -20,7 +22,7 @@ use Rattle.stream_server.specs.Serving.{Rests}
 use Rattle.wsgi_native.specs.Agreeing.{Agrees, HasEarned, Owner}
 use Rattle.wsgi_native.specs.Ends.{IsAtJob, IsOutOfJobs}
 use Rattle.wsgi_native.specs.JobApp.{job_app}
-use Rattle.wsgi_native.specs.Tied.{AreNumberedFrom, IsInOrder}
+use Rattle.wsgi_native.specs.Tied.{HasPosted, IsInOrder}
 use Rattle.serve_command.specs.declared.serving.Served.{Served}
 use Rattle.serve_command.specs.Jobs.{ServesJobsAt}
 use Rattle.serve_command.specs.Serving.{ServesAt, listening}
@@ -141,18 +143,18 @@ by_options P o given is h = λ options e. subst P (same_options given options (s
 
 -- ---- where memory ran out before it listened
 
-pub nobody_served_natively : (workers asked : ℕ) (limits : Limits) (w : NetMeaning) (before after : World) (out0 out1 : Option (List ℕ)) → IsFresh w → after ≡ before → out1 ≡ out0
-    → ServesNatively workers Served.Memory asked limits w before after out0 out1
-nobody_served_natively workers asked limits w before after out0 out1 fresh kept same = record {
+pub nobody_served_natively : (workers asked : ℕ) (limits : Limits) (w : NetMeaning) (before after : World) (stands : List LogEntry → Type 0) (out0 out1 : Option (List ℕ)) → IsFresh w → after ≡ before → out1 ≡ out0
+    → ServesNatively workers Served.Memory asked limits w before after stands out0 out1
+nobody_served_natively workers asked limits w before after stands out0 out1 fresh kept same = record {
   serves = none_served_jobs Served.Memory asked limits w after out0 out1 0 memory_unfinished memory_no_jobs fresh.none fresh.none_live (left_as_it_was out0 out1 (listening 0) same) (inl same);
   begun = inr (kept, fresh.none);
 }
 
-pub nobody_served : (answers : ServeAnswers) (asked : ℕ) (app : App) (limits : Limits) (w : NetMeaning) (before after : World) (out0 out1 : Option (List ℕ)) → IsFresh w → after ≡ before → out1 ≡ out0
-    → ServesWith answers Served.Memory asked app limits w before after out0 out1
-nobody_served (ServeAnswers.Application gateway) asked app limits w before after out0 out1 fresh kept same =
+pub nobody_served : (answers : ServeAnswers) (asked : ℕ) (app : App) (limits : Limits) (w : NetMeaning) (before after : World) (stands : List LogEntry → Type 0) (out0 out1 : Option (List ℕ)) → IsFresh w → after ≡ before → out1 ≡ out0
+    → ServesWith answers Served.Memory asked app limits w before after stands out0 out1
+nobody_served (ServeAnswers.Application gateway) asked app limits w before after stands out0 out1 fresh kept same =
     none_served Rests (λ port. ⊥) Served.Memory asked (answers_by gateway) app limits w out0 out1 0 memory_unfinished memory_no_jobs fresh.none fresh.none_live (left_as_it_was out0 out1 (listening 0) same) (inl same)
-nobody_served (ServeAnswers.Jobs workers) asked app limits w before after out0 out1 fresh kept same = nobody_served_natively workers asked limits w before after out0 out1 fresh kept same
+nobody_served (ServeAnswers.Jobs workers) asked app limits w before after stands out0 out1 fresh kept same = nobody_served_natively workers asked limits w before after stands out0 out1 fresh kept same
 
 -- ---- where native workers served
 
@@ -219,22 +221,36 @@ serves_after end asked limits w v out0 out1 h = record {
   out_of_jobs = λ vain. h.out_of_jobs (vain_before h.serves.port w v vain);
 }
 
-pub served_natively : (workers : ℕ) (end : Served) (asked : ℕ) (limits : Limits) (w : NetMeaning) (before v after : World) (out0 out1 : Option (List ℕ)) → after ≡ record v { runs = false } → IsInOrder v → AreNumberedFrom 1 v.posts → v.workers ≡ workers
-    → ServesJobsAt end asked limits w v out0 out1 → ServesNatively workers end asked limits w before after out0 out1
-served_natively workers end asked limits w before v after out0 out1 is order numbered same h =
-    subst (λ (x : World). ServesNatively workers end asked limits w before x out0 out1) (sym is) (record { serves = serves_after end asked limits w v out0 out1 h; begun = inl (record { workers_are = same; numbered = numbered; posted = order.done }) })
+logged_after : (v : World) (stood stands : List LogEntry → Type 0) → ((log : List LogEntry) → stood log ↔ stands log) → HasLegalLog v stood → HasLegalLog (stopped v) stands
+logged_after v stood stands same h = record {
+  log = h.log;
+  stood = (same h.log).0 h.stood;
+  posts = h.posts;
+  answers = h.answers;
+  legal = h.legal;
+  untimed = h.untimed;
+}
+
+pub served_natively : (workers : ℕ) (end : Served) (asked : ℕ) (limits : Limits) (w : NetMeaning) (before v after : World) (stood stands : List LogEntry → Type 0) (out0 out1 : Option (List ℕ)) → after ≡ record v { runs = false }
+    → ((log : List LogEntry) → stood log ↔ stands log) → IsInOrder v → HasPosted v stood → v.workers ≡ workers
+    → ServesJobsAt end asked limits w v out0 out1 → ServesNatively workers end asked limits w before after stands out0 out1
+served_natively workers end asked limits w before v after stood stands out0 out1 is law order posted same h =
+    subst (λ (x : World). ServesNatively workers end asked limits w before x stands out0 out1) (sym is) (record {
+      serves = serves_after end asked limits w v out0 out1 h;
+      begun = inl (record { workers_are = same; numbered = posted.numbered; posted = order.done; logged = logged_after v stood stands law posted.logged });
+    })
 
 -- ---- what these answers serve with
 
-pub served_with_app : (given : ServeAnswers) (gateway : GatewayKind) (end : Served) (asked : ℕ) (app : App) (limits whole : Limits) (w : NetMeaning) (before after : World) (out0 out1 : Option (List ℕ)) → given ≡ ServeAnswers.Application gateway → limits ≡ whole
-    → ServesAt end asked (answers_by gateway) app limits w out0 out1 → ServesWith given end asked app whole w before after out0 out1
-served_with_app given gateway end asked app limits whole w before after out0 out1 is fit h =
-    subst (λ (a : ServeAnswers). ServesWith a end asked app whole w before after out0 out1) (sym is) (subst (λ (l : Limits). ServesAt end asked (answers_by gateway) app l w out0 out1) fit h)
+pub served_with_app : (given : ServeAnswers) (gateway : GatewayKind) (end : Served) (asked : ℕ) (app : App) (limits whole : Limits) (w : NetMeaning) (before after : World) (stands : List LogEntry → Type 0) (out0 out1 : Option (List ℕ)) → given ≡ ServeAnswers.Application gateway → limits ≡ whole
+    → ServesAt end asked (answers_by gateway) app limits w out0 out1 → ServesWith given end asked app whole w before after stands out0 out1
+served_with_app given gateway end asked app limits whole w before after stands out0 out1 is fit h =
+    subst (λ (a : ServeAnswers). ServesWith a end asked app whole w before after stands out0 out1) (sym is) (subst (λ (l : Limits). ServesAt end asked (answers_by gateway) app l w out0 out1) fit h)
 
-pub served_with_jobs : (given : ServeAnswers) (workers : ℕ) (end : Served) (asked : ℕ) (app : App) (limits whole : Limits) (w : NetMeaning) (before after : World) (out0 out1 : Option (List ℕ)) → given ≡ ServeAnswers.Jobs workers → limits ≡ whole
-    → ServesNatively workers end asked limits w before after out0 out1 → ServesWith given end asked app whole w before after out0 out1
-served_with_jobs given workers end asked app limits whole w before after out0 out1 is fit h =
-    subst (λ (a : ServeAnswers). ServesWith a end asked app whole w before after out0 out1) (sym is) (subst (λ (l : Limits). ServesNatively workers end asked l w before after out0 out1) fit h)
+pub served_with_jobs : (given : ServeAnswers) (workers : ℕ) (end : Served) (asked : ℕ) (app : App) (limits whole : Limits) (w : NetMeaning) (before after : World) (stands : List LogEntry → Type 0) (out0 out1 : Option (List ℕ)) → given ≡ ServeAnswers.Jobs workers → limits ≡ whole
+    → ServesNatively workers end asked limits w before after stands out0 out1 → ServesWith given end asked app whole w before after stands out0 out1
+served_with_jobs given workers end asked app limits whole w before after stands out0 out1 is fit h =
+    subst (λ (a : ServeAnswers). ServesWith a end asked app whole w before after stands out0 out1) (sym is) (subst (λ (l : Limits). ServesNatively workers end asked l w before after stands out0 out1) fit h)
 
 -- ---- what a server came to, and its line
 
@@ -244,12 +260,12 @@ told_whole n v w old new e0 e1 (inl e) (inl p) h5 h7 = p.1 ∙ ap (λ x. appende
 told_whole n v w old new e0 e1 (inr q) (inl p) h5 h7 = absurd (h7 (p.0 ∙ ap verdict_status q.0))
 told_whole n v w old new e0 e1 o (inr p) h5 h7 = absurd (h5 p.0)
 
-pub serves_so : (n : ℕ) (app : App) (options : ServeOptions) (end : Served) (w : Verdict) (m : NetMeaning) (before rested after : World) (out0 begun out1 err0 silent err1 : Option (List ℕ)) (e0 e1 : ℕ) →
-    rested ≡ before → begun ≡ out0 → silent ≡ err0 → ServesWith options.answers end options.port app (limits_of options) m rested after begun out1 → IsOr (verdict_of_server end) w → IsVerdictTold n w silent err1 e0 e1 →
-    Serves n app options m before after out0 out1 err0 err1
-serves_so n app options end w m before rested after out0 begun out1 err0 silent err1 e0 e1 kept same quiet h o l =
-    let P : Option (List ℕ) → Type 0 = λ x. ServesWith options.answers end options.port app (limits_of options) m before after x out1 in
-    let R : World → Type 0 = λ x. ServesWith options.answers end options.port app (limits_of options) m x after begun out1 in
+pub serves_so : (n : ℕ) (app : App) (options : ServeOptions) (end : Served) (w : Verdict) (m : NetMeaning) (before rested after : World) (stands : List LogEntry → Type 0) (out0 begun out1 err0 silent err1 : Option (List ℕ)) (e0 e1 : ℕ) →
+    rested ≡ before → begun ≡ out0 → silent ≡ err0 → ServesWith options.answers end options.port app (limits_of options) m rested after stands begun out1 → IsOr (verdict_of_server end) w → IsVerdictTold n w silent err1 e0 e1 →
+    Serves n app options m before after stands out0 out1 err0 err1
+serves_so n app options end w m before rested after stands out0 begun out1 err0 silent err1 e0 e1 kept same quiet h o l =
+    let P : Option (List ℕ) → Type 0 = λ x. ServesWith options.answers end options.port app (limits_of options) m before after stands x out1 in
+    let R : World → Type 0 = λ x. ServesWith options.answers end options.port app (limits_of options) m x after stands begun out1 in
     let Q : Option (List ℕ) → Type 0 = λ x. err1 ≡ appended x (verdict_line (verdict_of_server end)) in
     record {
       end = end;
@@ -259,11 +275,11 @@ serves_so n app options end w m before rested after out0 begun out1 err0 silent 
     }
 
 -- where memory ran out as the words were read
-pub serves_nobody : (n : ℕ) (app : App) (options : ServeOptions) (m : NetMeaning) (before after : World) (out0 out1 err0 err1 : Option (List ℕ)) →
-    IsFresh m → after ≡ before → out1 ≡ out0 → (n ≡ 5) ⊎ (n ≡ 7) → Serves n app options m before after out0 out1 err0 err1
-serves_nobody n app options m before after out0 out1 err0 err1 fresh kept same e = record {
+pub serves_nobody : (n : ℕ) (app : App) (options : ServeOptions) (m : NetMeaning) (before after : World) (stands : List LogEntry → Type 0) (out0 out1 err0 err1 : Option (List ℕ)) →
+    IsFresh m → after ≡ before → out1 ≡ out0 → (n ≡ 5) ⊎ (n ≡ 7) → Serves n app options m before after stands out0 out1 err0 err1
+serves_nobody n app options m before after stands out0 out1 err0 err1 fresh kept same e = record {
   end = Served.Memory;
-  serves = nobody_served options.answers options.port app (limits_of options) m before after out0 out1 fresh kept same;
+  serves = nobody_served options.answers options.port app (limits_of options) m before after stands out0 out1 fresh kept same;
   status = inr ((λ z. absurd (omega (arith, z))), e);
   err = by e;
 }

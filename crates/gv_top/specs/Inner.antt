@@ -37,9 +37,9 @@ IsOr v w = (w ≡ v) ⊎ ((w ≡ Verdict.Broke Failure.Memory) × (verdict_statu
 -- ---- what was done
 
 -- where the command is a run of the scenario that the bytes spell, native workers ran so
-abbrev pub BeganText : Bool → TextCommand → List ℕ → WorldMeaning → WorldMeaning → Option (List ℕ) → Option (List ℕ) → Option (List ℕ) → Type 0
-BeganText waits command bytes before after out0 out1 handed1 =
-    (options : RunOptions) (s : Scenario) → command ≡ TextCommand.Run options → judged_text bytes ≡ Ok s → BeganSo waits options s before after out0 out1 handed1
+abbrev pub BeganText : Bool → TextCommand → List ℕ → WorldMeaning → WorldMeaning → Option (List ℕ) → Option (List ℕ) → Option (List ℕ) → ℕ → ℕ → Type 0
+BeganText waits command bytes before after out0 out1 handed1 faults0 faults1 =
+    (options : RunOptions) (s : Scenario) → command ≡ TextCommand.Run options → judged_text bytes ≡ Ok s → BeganSo waits options s before after out0 out1 handed1 faults0 faults1
 
 -- the verdict is the end of the connection that the input and out are, through this gateway and with this application
 pub record IsOfConnection (v : Verdict) (gateway : GatewayKind) (app : App) (in0 in1 out0 out1 : Option (List ℕ)) : Type 0 where

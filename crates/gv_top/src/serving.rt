@@ -73,7 +73,7 @@ fn serve_natively<K: Sink, N: Net, W: World, H: Wait>(
     requires in_range { IsInRange server.terms.limits }
     requires some { 0 < server.workers }
     requires few { server.workers ≤ MOST_WORKERS }
-    ensures serves { ServesNatively server.workers result server.terms.port server.terms.limits (N.meaning net.new) (W.meaning native.old) (W.meaning native.new) (K.written out.old) (K.written out.new) }
+    ensures serves { ServesNatively server.workers result server.terms.port server.terms.limits (N.meaning net.new) (W.meaning native.old) (W.meaning native.new) (W.stands_for native.new) (K.written out.old) (K.written out.new) }
     ensures told { IsToldFirst server.terms.port (N.meaning net.new) (K.written out.old) (K.handed out.new) }
     ensures handed { K.handed out.old ≡ K.written out.old → result ≢ Served.WriteFault → result ≢ Served.Memory → K.handed out.new ≡ K.written out.new }
     ensures rests { (W.meaning native.new).runs ≡ false }
@@ -110,7 +110,7 @@ fn serve_as<K: Sink, N: Net, W: World, A: Application, H: Wait>(
     requires fresh { IsFresh (N.meaning net.old) }
     requires in_range { IsInRange (limits_of options) }
     requires answers_in_range { AreAnswersInRange options.answers }
-    ensures serves { ServesWith options.answers result options.port (A.answer_of app.now) (limits_of options) (N.meaning net.new) (W.meaning native.old) (W.meaning native.new) (K.written out.old) (K.written out.new) }
+    ensures serves { ServesWith options.answers result options.port (A.answer_of app.now) (limits_of options) (N.meaning net.new) (W.meaning native.old) (W.meaning native.new) (W.stands_for native.new) (K.written out.old) (K.written out.new) }
     ensures told { IsToldFirst options.port (N.meaning net.new) (K.written out.old) (K.handed out.new) }
     ensures handed { K.handed out.old ≡ K.written out.old → result ≢ Served.WriteFault → result ≢ Served.Memory → K.handed out.new ≡ K.written out.new }
     ensures untouched { are_native options.answers ≡ false → native.new ≡ native.old }
@@ -148,7 +148,7 @@ fn serve<K: Sink, N: Net, W: World, A: Application, H: Wait>(
     requires fresh { IsFresh (N.meaning net.old) }
     requires named { IsSome (serve_of (map string_bytes words.now)) }
     ensures serves { (options : AnyServer) → serve_of (map string_bytes words.now) ≡ Some options →
-        ServesWith options.answers result options.port (A.answer_of app.now) (limits_of options) (N.meaning net.new) (W.meaning native.old) (W.meaning native.new) (K.written out.old) (K.written out.new) }
+        ServesWith options.answers result options.port (A.answer_of app.now) (limits_of options) (N.meaning net.new) (W.meaning native.old) (W.meaning native.new) (W.stands_for native.new) (K.written out.old) (K.written out.new) }
     ensures untouched { is_native_server (serve_of (map string_bytes words.now)) ≡ false → native.new ≡ native.old }
     ensures rests { (W.meaning native.new).runs ≡ false }
     ensures told { (options : AnyServer) → serve_of (map string_bytes words.now) ≡ Some options →
@@ -203,11 +203,11 @@ pub fn gvr<S: Source, K: Sink, E: Sink, W: World, N: Net, A: Application, H: Wai
         AnswersCheck result (offline_command_of (map string_bytes words.now))
         (seen S.remaining S.faults input.old input.new) (seen K.written K.faults out.old out.new) (seen E.written E.faults err.old err.new) }
     ensures borne_out { IsBorneOut result (seen S.remaining S.faults input.old input.new) (seen K.written K.faults out.old out.new) (seen E.written E.faults err.old err.new) }
-    // Native workers were asked only after what the run says before was written, and handed on where they may be long in
-    // answering; or they are as they were.
+    // Native workers were asked, with held order too, only after what the run says before was written, and handed on where
+    // they may be long in answering; with every status they were posted the run's jobs alone. Or no run was begun.
     ensures began { (options : AnyOptions) (s : AnyScenario) (left : List ℕ) → offline_command_of (map string_bytes words.now) ≡ Some (OfflineCommand.Text (TextCommand.Run options)) →
         S.remaining input.old ≡ Some left → Spells s (take most_read left) → IsWellFormed s →
-        BeganSo W.waits options s (W.meaning native.old) (W.meaning native.new) (K.written out.old) (K.written out.new) (K.handed out.new) }
+        BeganSo W.waits options s (W.meaning native.old) (W.meaning native.new) (K.written out.old) (K.written out.new) (K.handed out.new) (K.faults out.old) (K.faults out.new) }
     // All that was written is handed on, where all was before, but with the statuses 5 and 7; the line of status 7 too.
     ensures handed { HandsOn result (K.written out.old) (K.handed out.old) (K.written out.new) (K.handed out.new) }
     ensures err_handed { result ≢ 5 → E.handed err.old ≡ E.written err.old → E.handed err.new ≡ E.written err.new }
@@ -225,7 +225,7 @@ pub fn gvr<S: Source, K: Sink, E: Sink, W: World, N: Net, A: Application, H: Wai
     // its own with the application at the port of the first line, and each closed one was closed for a cause; so it is
     // where native workers answer the requests for jobs, in whichever order. It reads no input.
     ensures served { (options : AnyServer) → serve_of (map string_bytes words.now) ≡ Some options →
-        Serves result (A.answer_of app.now) options (N.meaning net.new) (W.meaning native.old) (W.meaning native.new) (K.written out.old) (K.written out.new) (E.written err.old) (E.written err.new) }
+        Serves result (A.answer_of app.now) options (N.meaning net.new) (W.meaning native.old) (W.meaning native.new) (W.stands_for native.new) (K.written out.old) (K.written out.new) (E.written err.old) (E.written err.new) }
     ensures told { (options : AnyServer) → serve_of (map string_bytes words.now) ≡ Some options →
         IsToldFirst options.port (N.meaning net.new) (K.written out.old) (K.handed out.new) }
     ensures network_fault { result ≡ 10 → IsSome (serve_of (map string_bytes words.now)) × HasRisen (N.meaning net.old).faults (N.meaning net.new).faults }

@@ -61,7 +61,7 @@ fn decide<S: Source, K: Sink, W: World, A: Application>(
         HasLawfulLines (verdict_status verdict) (K.written out.old) (K.written out.new)) }
     ensures hands { IfSome result (λ verdict. HandsOn (verdict_status verdict) (K.written out.old) (K.handed out.old) (K.written out.new) (K.handed out.new)) }
     ensures began { IfSome result (λ verdict. (text : TextCommand) → offline_command_of (map string_bytes words.now) ≡ Some (OfflineCommand.Text text) → (left : List ℕ) → S.remaining input.old ≡ Some left →
-        BeganText W.waits text (take most_read left) (W.meaning native.old) (W.meaning native.new) (K.written out.old) (K.written out.new) (K.handed out.new)) }
+        BeganText W.waits text (take most_read left) (W.meaning native.old) (W.meaning native.new) (K.written out.old) (K.written out.new) (K.handed out.new) (K.faults out.old) (K.faults out.new)) }
     ensures untouched { is_native (offline_command_of (map string_bytes words.now)) ≡ false → native.new ≡ native.old }
     ensures left_alone { IfSome result (λ verdict. IsLeftAlone (verdict_status verdict) (S.remaining input.old) native.old native.new) }
     ensures rests { (W.meaning native.new).runs ≡ false }
@@ -120,7 +120,7 @@ fn answer_command<S: Source, K: Sink, W: World, A: Application>(
         RanSo (verdict_status result) text (take most_read left) (W.meaning native.new) (W.stands_for native.new) (K.written out.old) (K.written out.new) }
     ensures lawful { (options : AnyOptions) → command ≡ Some (OfflineCommand.Text (TextCommand.Run options)) → HasLawfulLines (verdict_status result) (K.written out.old) (K.written out.new) }
     ensures began { (text : TextCommand) → command ≡ Some (OfflineCommand.Text text) → (left : List ℕ) → S.remaining input.old ≡ Some left →
-        BeganText W.waits text (take most_read left) (W.meaning native.old) (W.meaning native.new) (K.written out.old) (K.written out.new) (K.handed out.new) }
+        BeganText W.waits text (take most_read left) (W.meaning native.old) (W.meaning native.new) (K.written out.old) (K.written out.new) (K.handed out.new) (K.faults out.old) (K.faults out.new) }
     ensures untouched { is_native command ≡ false → native.new ≡ native.old }
     ensures left_alone { IsLeftAlone (verdict_status result) (S.remaining input.old) native.old native.new }
     ensures rests { (W.meaning native.new).runs ≡ false }
@@ -164,7 +164,7 @@ fn answer_input<S: Source, K: Sink, W: World>(
         RanSo (verdict_status result) command (take most_read left) (W.meaning native.new) (W.stands_for native.new) (K.written out.old) (K.written out.new) }
     ensures lawful { (options : AnyOptions) → command ≡ TextCommand.Run options → HasLawfulLines (verdict_status result) (K.written out.old) (K.written out.new) }
     ensures began { (left : List ℕ) → S.remaining input.old ≡ Some left →
-        BeganText W.waits command (take most_read left) (W.meaning native.old) (W.meaning native.new) (K.written out.old) (K.written out.new) (K.handed out.new) }
+        BeganText W.waits command (take most_read left) (W.meaning native.old) (W.meaning native.new) (K.written out.old) (K.written out.new) (K.handed out.new) (K.faults out.old) (K.faults out.new) }
     ensures untouched { is_native_text command ≡ false → native.new ≡ native.old }
     ensures left_alone { IsLeftAlone (verdict_status result) (S.remaining input.old) native.old native.new }
     ensures rests { (W.meaning native.new).runs ≡ false }
@@ -199,7 +199,7 @@ fn answer_text<K: Sink, W: World>(
     requires rests { (W.meaning native.old).runs ≡ false }
     ensures ran { RanSo (verdict_status result) command bytes.now (W.meaning native.new) (W.stands_for native.new) (K.written out.old) (K.written out.new) }
     ensures lawful { (options : AnyOptions) → command ≡ TextCommand.Run options → HasLawfulLines (verdict_status result) (K.written out.old) (K.written out.new) }
-    ensures began { BeganText W.waits command bytes.now (W.meaning native.old) (W.meaning native.new) (K.written out.old) (K.written out.new) (K.handed out.new) }
+    ensures began { BeganText W.waits command bytes.now (W.meaning native.old) (W.meaning native.new) (K.written out.old) (K.written out.new) (K.handed out.new) (K.faults out.old) (K.faults out.new) }
     ensures untouched { is_native_text command ≡ false → native.new ≡ native.old }
     ensures refused { verdict_status result ≡ 3 → native.new ≡ native.old }
     ensures unspelt { ((s : AnyScenario) → Spells s bytes.now → IsWellFormed s → ⊥) → native.new ≡ native.old }
@@ -232,7 +232,7 @@ fn answer_scenario<K: Sink, W: World>(
     ensures ran { RanScenarioSo (verdict_status result) command checked (W.meaning native.new) (W.stands_for native.new) (K.written out.old) (K.written out.new) }
     ensures lawful { (options : AnyOptions) → command ≡ TextCommand.Run options → HasLawfulLines (verdict_status result) (K.written out.old) (K.written out.new) }
     ensures began { (options : AnyOptions) → command ≡ TextCommand.Run options →
-        BeganSo W.waits options checked (W.meaning native.old) (W.meaning native.new) (K.written out.old) (K.written out.new) (K.handed out.new) }
+        BeganSo W.waits options checked (W.meaning native.old) (W.meaning native.new) (K.written out.old) (K.written out.new) (K.handed out.new) (K.faults out.old) (K.faults out.new) }
     ensures untouched { is_native_text command ≡ false → native.new ≡ native.old }
     ensures rests { (W.meaning native.new).runs ≡ false }
     ensures answer { Decided result (answer_to_scenario command (W.meaning native.new).answers checked) (K.written out.old) (K.written out.new) }
@@ -386,11 +386,11 @@ pub fn offline<S: Source, K: Sink, E: Sink, W: World, A: Application>(
         (seen S.remaining S.faults input.old input.new) (seen K.written K.faults out.old out.new) (seen E.written E.faults err.old err.new)) }
     ensures borne_out { IfSome result (λ status. IsBorneOut status
         (seen S.remaining S.faults input.old input.new) (seen K.written K.faults out.old out.new) (seen E.written E.faults err.old err.new)) }
-    // Native workers were asked only after what the run says before was written, and handed on where they may be long in
-    // answering; or they are as they were.
+    // Native workers were asked, with held order too, only after what the run says before was written, and handed on where
+    // they may be long in answering; with every status they were posted the run's jobs alone. Or no run was begun.
     ensures began { IfSome result (λ status. (options : AnyOptions) (s : AnyScenario) (left : List ℕ) → offline_command_of (map string_bytes words.now) ≡ Some (OfflineCommand.Text (TextCommand.Run options)) →
         S.remaining input.old ≡ Some left → Spells s (take most_read left) → IsWellFormed s →
-        BeganSo W.waits options s (W.meaning native.old) (W.meaning native.new) (K.written out.old) (K.written out.new) (K.handed out.new)) }
+        BeganSo W.waits options s (W.meaning native.old) (W.meaning native.new) (K.written out.old) (K.written out.new) (K.handed out.new) (K.faults out.old) (K.faults out.new)) }
     // All that was written is handed on, where all was before.
     ensures handed { IfSome result (λ status. HandsOn status (K.written out.old) (K.handed out.old) (K.written out.new) (K.handed out.new)) }
     ensures err_handed { IfSome result (λ status. status ≢ 5 → E.handed err.old ≡ E.written err.old → E.handed err.new ≡ E.written err.new) }

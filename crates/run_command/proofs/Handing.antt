@@ -6,14 +6,15 @@ use Rattle.gv_io.proofs.StreamLaws.{appended-appended}
 use Rattle.trace_text.specs.Line.{text_of}
 use Rattle.scenario_tree.specs.declared.tree.Scenario.{Scenario}
 use Rattle.world.specs.Outside.{WorldMeaning}
-use Rattle.machine.specs.Run.{Ran, run, script_run}
+use Rattle.machine.specs.Run.{Ran, run}
 use Rattle.hub_engine.specs.declared.run.EngineEnd.{EngineEnd}
 use Rattle.hub_engine.specs.Run.{WroteAhead}
 use Rattle.hub_engine.specs.Prepared.{Prepared}
 use Rattle.command_words.specs.declared.command.RunOptions.{RunOptions}
 use Rattle.command_words.specs.declared.command.RunWorld.{RunWorld}
-use Rattle.run_command.specs.Ends.{is_broken_off}
-use Rattle.run_command.specs.Running.{BeganSo}
+use Rattle.run_command.specs.Ends.{HadNoMemory, is_broken_off}
+use Rattle.run_command.specs.Faults.{Counts}
+use Rattle.run_command.specs.Running.{BeganSo, IsHeldAhead, IsNativeAhead}
 
 -- ---- what was handed on
 
@@ -41,29 +42,50 @@ ahead_later whole ran after out0 h1 h2 same ahead kept before last e =
 
 -- ---- whether native workers were begun
 
--- the engine that is prepared with these options has asked them as the options say
-pub began_natively : (waits : Bool) (options : RunOptions) (workers : ℕ) (s : Scenario) (before after : WorldMeaning) (engine : Prepared) (out0 out1 handed1 : Option (List ℕ)) →
-    engine ≡ record { scenario = s; turns = options.turns; moves = options.moves } → options.world ≡ RunWorld.Native workers →
-    (WroteAhead (run engine.scenario engine.turns engine.moves) after.answers out0 out1 × (waits ≡ true → WroteAhead (run engine.scenario engine.turns engine.moves) after.answers out0 handed1)) ⊎ (after ≡ before)
-    → BeganSo waits options s before after out0 out1 handed1
-began_natively waits options workers s before after engine out0 out1 handed1 is natively (inl h) =
-    let P : Prepared → Type 0 = λ e. WroteAhead (run e.scenario e.turns e.moves) after.answers out0 out1 × (waits ≡ true → WroteAhead (run e.scenario e.turns e.moves) after.answers out0 handed1) in
-    let A : RunWorld → Option (List ℕ) → Type 0 = λ w out. WroteAhead (λ given. elim w [
-      | RunWorld.Script n ↦ script_run s options.turns options.moves n
-      | RunWorld.Native k ↦ run s options.turns options.moves given
-      | RunWorld.Held held ↦ script_run s options.turns options.moves 0
-    ]) after.answers out0 out in
-    let began = subst P is h in
-    inl (record {
-      written = λ others e. subst (λ (w : RunWorld). A w out1) (sym natively) began.0;
-      handed = λ others e may_wait. subst (λ (w : RunWorld). A w handed1) (sym natively) (began.1 may_wait);
-    })
-began_natively waits options workers s before after engine out0 out1 handed1 is natively (inr u) = inr u
+native_is_not_held : (a b : ℕ) → RunWorld.Native a ≡ RunWorld.Held b → ⊥
+native_is_not_held a b z = cc z
 
--- with held order there is nothing to say of them
-pub began_held : (waits : Bool) (options : RunOptions) (workers : ℕ) (s : Scenario) (before after : WorldMeaning) (out0 out1 handed1 : Option (List ℕ)) → options.world ≡ RunWorld.Held workers → BeganSo waits options s before after out0 out1 handed1
-began_held waits options workers s before after out0 out1 handed1 held =
-    inl (record { written = λ others natively. absurd (other_world others (sym held ∙ natively)); handed = λ others natively. absurd (other_world others (sym held ∙ natively)) })
-  where
-    other_world : (others : ℕ) → RunWorld.Held workers ≡ RunWorld.Native others → ⊥
-    other_world others z = cc z
+held_is_not_native : (a b : ℕ) → RunWorld.Held a ≡ RunWorld.Native b → ⊥
+held_is_not_native a b z = cc z
+
+script_is_not_native : (a b : ℕ) → RunWorld.Script a ≡ RunWorld.Native b → ⊥
+script_is_not_native a b z = cc z
+
+script_is_not_held : (a b : ℕ) → RunWorld.Script a ≡ RunWorld.Held b → ⊥
+script_is_not_held a b z = cc z
+
+memory_is_no_write_fault : EngineEnd.Memory ≡ EngineEnd.WriteFault → ⊥
+memory_is_no_write_fault z = cc z
+
+-- where memory ran out no write failed
+none_failed : (end : EngineEnd) (faults0 faults1 : ℕ) → end ≡ EngineEnd.Memory → Counts (end ≡ EngineEnd.WriteFault) faults0 faults1 → faults1 ≡ faults0
+none_failed end faults0 faults1 is counts = counts.unfailed (λ z. memory_is_no_write_fault (sym is ∙ z))
+
+-- a script asks none
+pub began_script : (waits : Bool) (options : RunOptions) (tick : ℕ) (s : Scenario) (before after : WorldMeaning) (out0 out1 handed1 : Option (List ℕ)) (faults0 faults1 : ℕ) → options.world ≡ RunWorld.Script tick →
+    BeganSo waits options s before after out0 out1 handed1 faults0 faults1
+began_script waits options tick s before after out0 out1 handed1 faults0 faults1 script = inl (record {
+  native = λ workers e. absurd (script_is_not_native tick workers (sym script ∙ e));
+  held = λ workers e. absurd (script_is_not_held tick workers (sym script ∙ e));
+})
+
+-- the engine that is prepared with these options has asked them as the options say
+pub began_natively : (waits : Bool) (options : RunOptions) (workers : ℕ) (s : Scenario) (before after : WorldMeaning) (engine : Prepared) (end : EngineEnd) (out0 out1 handed1 : Option (List ℕ)) (faults0 faults1 : ℕ) →
+    engine ≡ record { scenario = s; turns = options.turns; moves = options.moves } → options.world ≡ RunWorld.Native workers → Counts (end ≡ EngineEnd.WriteFault) faults0 faults1 →
+    IsNativeAhead waits (run engine.scenario engine.turns engine.moves) after out0 out1 handed1 ⊎ ((after ≡ before) × HadNoMemory end out0 out1)
+    → BeganSo waits options s before after out0 out1 handed1 faults0 faults1
+began_natively waits options workers s before after engine end out0 out1 handed1 faults0 faults1 is natively counts (inl h) =
+    let P : Prepared → Type 0 = λ p. IsNativeAhead waits (run p.scenario p.turns p.moves) after out0 out1 handed1 in
+    inl (record { native = λ others e. subst P is h; held = λ others e. absurd (native_is_not_held workers others (sym natively ∙ e)) })
+began_natively waits options workers s before after engine end out0 out1 handed1 faults0 faults1 is natively counts (inr (same, u)) =
+    inr (record { unwritten = u.0; untried = none_failed end faults0 faults1 u.1 counts; kept = λ others e. same })
+
+-- so has it with held order
+pub began_held : (waits : Bool) (options : RunOptions) (workers : ℕ) (s : Scenario) (before after : WorldMeaning) (engine : Prepared) (end : EngineEnd) (out0 out1 handed1 : Option (List ℕ)) (faults0 faults1 : ℕ) →
+    engine ≡ record { scenario = s; turns = options.turns; moves = options.moves } → options.world ≡ RunWorld.Held workers → Counts (end ≡ EngineEnd.WriteFault) faults0 faults1 →
+    IsHeldAhead waits (run engine.scenario engine.turns engine.moves) after out0 out1 handed1 ⊎ HadNoMemory end out0 out1 → BeganSo waits options s before after out0 out1 handed1 faults0 faults1
+began_held waits options workers s before after engine end out0 out1 handed1 faults0 faults1 is held counts (inl h) =
+    let P : Prepared → Type 0 = λ p. IsHeldAhead waits (run p.scenario p.turns p.moves) after out0 out1 handed1 in
+    inl (record { native = λ others e. absurd (held_is_not_native workers others (sym held ∙ e)); held = λ others e. subst P is h })
+began_held waits options workers s before after engine end out0 out1 handed1 faults0 faults1 is held counts (inr u) =
+    inr (record { unwritten = u.0; untried = none_failed end faults0 faults1 u.1 counts; kept = λ others e. absurd (held_is_not_native workers others (sym held ∙ e)) })

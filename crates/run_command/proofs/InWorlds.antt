@@ -28,7 +28,7 @@ use Rattle.hub_engine.specs.Ends.{HasLogged, IsPartLogged, RanTo, end_of_run}
 use Rattle.hub_engine.specs.Run.{WroteAhead}
 use Rattle.run_command.specs.Faults.{Counts}
 use Rattle.run_command.specs.Inner.{RanInWorld}
-use Rattle.run_command.specs.Running.{IsBegun, IsHeldAhead, RanHeld, RanNatively, run_of}
+use Rattle.run_command.specs.Running.{IsBegun, IsHeldAhead, IsLogged, RanHeld, RanNatively, run_of}
 use Rattle.command_words.specs.Ranges.{IsWorldInRange}
 use Rattle.command_words.specs.declared.command.RunOptions.{RunOptions}
 use Rattle.command_words.specs.declared.command.RunWorld.{RunWorld}
@@ -226,6 +226,12 @@ ran_natively posts answers end c turns moves workers before after stands out0 ou
       log = log;
     }
 
+-- what they were posted and answered
+pub logged_natively : (log : List LogEntry) (after : WorldMeaning) (stands : List LogEntry → Type 0) → ((part : List LogEntry) → stands part → (posts_of part ≡ after.posts) × (answers_of part ≡ after.answers))
+    → IsPartLogged log after.answers stands → AreLegal [] [] log → IsLogged log after
+logged_natively log after stands law h legal =
+    let is = law h.part h.stood in record { part = h.part; later = h.later; begins = h.is; posts = is.0; answers = is.1; legal = legal }
+
 -- ---- with native workers whose results are told in the order of a script
 
 pub ran_held : FollowersRunScripts → PostsAreTold → AnswersAreTold → (end : EngineEnd) (c : Scenario) (turns moves workers k : ℕ) (before inner : WorldMeaning) (stands : List LogEntry → Type 0) (w : ScriptWorld) (out0 out1 : Option (List ℕ)) → before.tick ≡ 0 → 0 < workers
@@ -263,11 +269,6 @@ held_ahead waits end c turns moves workers k before inner w out0 out1 handed1 so
       written = h.ahead;
       handed = handed;
     }
-
--- the engine that is prepared with these options has asked them so
-pub held_began_so : (waits : Bool) (U : Type 0) (options : RunOptions) (s : Scenario) (after : WorldMeaning) (engine : Prepared) (out0 out1 handed1 : Option (List ℕ)) → engine ≡ record { scenario = s; turns = options.turns; moves = options.moves }
-    → IsHeldAhead waits (run engine.scenario engine.turns engine.moves) after out0 out1 handed1 ⊎ U → IsHeldAhead waits (run s options.turns options.moves) after out0 out1 handed1 ⊎ U
-held_began_so waits U options s after engine out0 out1 handed1 is h = subst (λ (e : Prepared). IsHeldAhead waits (run e.scenario e.turns e.moves) after out0 out1 handed1 ⊎ U) is h
 
 -- ---- the run of the options
 

@@ -35,11 +35,22 @@ pub record IsBegun (options : RunOptions) (s : Scenario) (answers : List Answer)
   pub lawful : meets_laws (run_of options answers s).lines ≡ true
   pub ahead : (workers : ℕ) → options.world ≡ Native workers → WroteAhead (λ given. run_of options given s) answers out0 out1
 
+-- What native workers were posted and answered is a first part of this log, each answer of which is legal.
+pub record IsLogged (log : List LogEntry) (after : WorldMeaning) : Type 0 where
+  pub part : List LogEntry
+  pub later : List LogEntry
+  pub begins : log ≡ part ++ later
+  pub posts : posts_of part ≡ after.posts
+  pub answers : answers_of part ≡ after.answers
+  pub legal : AreLegal [] [] log
+
 -- With native workers, what a run says before its last question stood in out when that was answered, and was handed on
--- where they may be long in answering.
-pub record IsRunAhead (waits : Bool) (options : RunOptions) (s : Scenario) (answers : List Answer) (out0 out1 handed1 : Option (List ℕ)) : Type 0 where
-  pub written : (workers : ℕ) → options.world ≡ Native workers → WroteAhead (λ given. run_of options given s) answers out0 out1
-  pub handed : (workers : ℕ) → options.world ≡ Native workers → waits ≡ true → WroteAhead (λ given. run_of options given s) answers out0 handed1
+-- where they may be long in answering. They were posted what it posts up to where it stopped or was broken off, and
+-- nothing else.
+pub record IsNativeAhead (waits : Bool) (whole : List Answer → Ran) (after : WorldMeaning) (out0 out1 handed1 : Option (List ℕ)) : Type 0 where
+  pub written : WroteAhead whole after.answers out0 out1
+  pub handed : waits ≡ true → WroteAhead whole after.answers out0 handed1
+  pub logged : IsLogged (whole after.answers).log after
 
 -- With held order the run is given answers in the order of a script. Native workers were posted what it posts up to the
 -- last of these, and answered that a job is done for each that these say so of; and what it says before that answer
@@ -55,9 +66,21 @@ pub record IsHeldAhead (waits : Bool) (whole : List Answer → Ran) (after : Wor
   pub written : WroteAhead whole given out0 out1
   pub handed : waits ≡ true → WroteAhead whole given out0 handed1
 
--- the run was begun so; or native workers are as they were: nothing was posted to them, and they answered nothing
-abbrev pub BeganSo : Bool → RunOptions → Scenario → WorldMeaning → WorldMeaning → Option (List ℕ) → Option (List ℕ) → Option (List ℕ) → Type 0
-BeganSo waits options s before after out0 out1 handed1 = IsRunAhead waits options s after.answers out0 out1 handed1 ⊎ (after ≡ before)
+-- how native workers were asked, where the options ask for them
+pub record IsRunAhead (waits : Bool) (options : RunOptions) (s : Scenario) (after : WorldMeaning) (out0 out1 handed1 : Option (List ℕ)) : Type 0 where
+  pub native : (workers : ℕ) → options.world ≡ Native workers → IsNativeAhead waits (run s options.turns options.moves) after out0 out1 handed1
+  pub held : (workers : ℕ) → options.world ≡ Held workers → IsHeldAhead waits (run s options.turns options.moves) after out0 out1 handed1
+
+-- No run was begun: nothing was written and no write failed, and native workers are as they were. With held order that
+-- is not said of them.
+pub record IsNotRun (options : RunOptions) (before after : WorldMeaning) (out0 out1 : Option (List ℕ)) (faults0 faults1 : ℕ) : Type 0 where
+  pub unwritten : out1 ≡ out0
+  pub untried : faults1 ≡ faults0
+  pub kept : (workers : ℕ) → options.world ≡ Native workers → after ≡ before
+
+-- the run was begun so, or none was begun
+abbrev pub BeganSo : Bool → RunOptions → Scenario → WorldMeaning → WorldMeaning → Option (List ℕ) → Option (List ℕ) → Option (List ℕ) → ℕ → ℕ → Type 0
+BeganSo waits options s before after out0 out1 handed1 faults0 faults1 = IsRunAhead waits options s after out0 out1 handed1 ⊎ IsNotRun options before after out0 out1 faults0 faults1
 
 -- What native workers are after a whole run: so many were begun, and run no longer; they were posted the jobs of the
 -- job lines, in order, and the turn lines have their answers, each of which is legal; and they stand for the log of the

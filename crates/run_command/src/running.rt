@@ -13,7 +13,7 @@ ghost use Rattle.scenario_rules.specs.Rules.{IsWellFormed};
 ghost use Rattle.run_command.specs.Ends.{HadNoMemory, is_broken_off};
 ghost use Rattle.run_command.specs.Faults.{Counts};
 ghost use Rattle.run_command.specs.Inner.{RanInWorld};
-ghost use Rattle.run_command.specs.Running.{BeganSo, IsBegun, IsHeldAhead, RanHeld, RanNatively, is_native_world, run_of};
+ghost use Rattle.run_command.specs.Running.{BeganSo, IsBegun, IsHeldAhead, IsNativeAhead, RanHeld, RanNatively, is_native_world, run_of};
 
 use command_words::{RunOptions, RunWorld};
 use gv_io::Sink;
@@ -117,9 +117,8 @@ fn run_natively<K: Sink, W: World>(
     ensures begun { ((meets_laws (run engine.scenario engine.turns engine.moves (W.meaning native.new).answers).lines ≡ true)
         × WroteAhead (run engine.scenario engine.turns engine.moves) (W.meaning native.new).answers (K.written out.old) (K.written out.new))
         ⊎ HadNoMemory result (K.written out.old) (K.written out.new) }
-    ensures began { (WroteAhead (run engine.scenario engine.turns engine.moves) (W.meaning native.new).answers (K.written out.old) (K.written out.new)
-        × (W.waits ≡ true → WroteAhead (run engine.scenario engine.turns engine.moves) (W.meaning native.new).answers (K.written out.old) (K.handed out.new)))
-        ⊎ (W.meaning native.new ≡ W.meaning native.old) }
+    ensures began { IsNativeAhead W.waits (run engine.scenario engine.turns engine.moves) (W.meaning native.new) (K.written out.old) (K.written out.new) (K.handed out.new)
+        ⊎ ((W.meaning native.new ≡ W.meaning native.old) × HadNoMemory result (K.written out.old) (K.written out.new)) }
     ensures written { RanTo result (run engine.scenario engine.turns engine.moves (W.meaning native.new).answers) (K.written out.old) (K.written out.new) }
     ensures native { result ≢ EngineEnd.WriteFault → result ≢ EngineEnd.Memory →
         RanNatively workers (run engine.scenario engine.turns engine.moves (W.meaning native.new).answers) (W.meaning native.new) (W.stands_for native.new) }
@@ -188,10 +187,7 @@ pub fn run_scenario<K: Sink, W: World>(
         RanHeld workers (run_of options (W.meaning native.new).answers checked) (W.meaning native.new) (W.stands_for native.new) }
     ensures begun { IsBegun options checked (W.meaning native.new).answers (K.written out.old) (K.written out.new)
         ⊎ HadNoMemory result (K.written out.old) (K.written out.new) }
-    ensures began { BeganSo W.waits options checked (W.meaning native.old) (W.meaning native.new) (K.written out.old) (K.written out.new) (K.handed out.new) }
-    ensures held_began { (workers : ℕ) → options.world ≡ RunWorld.Held workers →
-        IsHeldAhead W.waits (run checked options.turns options.moves) (W.meaning native.new) (K.written out.old) (K.written out.new) (K.handed out.new)
-        ⊎ HadNoMemory result (K.written out.old) (K.written out.new) }
+    ensures began { BeganSo W.waits options checked (W.meaning native.old) (W.meaning native.new) (K.written out.old) (K.written out.new) (K.handed out.new) (K.faults out.old) (K.faults out.new) }
     ensures untouched { is_native_world options.world ≡ false → native.new ≡ native.old }
     ensures rests { (W.meaning native.new).runs ≡ false }
     ensures hands { result ≢ EngineEnd.WriteFault → result ≢ EngineEnd.Memory → K.handed out.new ≡ K.written out.new }

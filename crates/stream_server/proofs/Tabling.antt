@@ -255,6 +255,15 @@ no_timer places clients ts key tied vacant h =
     let t = All-contains (IsTied places clients) ts found.0 tied found.1 in
     none_some (get clients key) t.client vacant (ap (get clients) (sym found.2) ∙ t.is)
 
+-- what holds of the deadline of each timer holds of that of each client
+pub listed_deadline : {T : Type 0} (P : ℕ → Type 0) (h : Inside T) (k : ℕ) (client : Client T) → IsSound h → All (λ (t : Timer). P t.deadline) h.timers.timers
+    → IsListed {T} (record { places = h.places.slots; clients = h.clients; members = h.members; limit = h.limit }) k (Some client) → P client.deadline
+listed_deadline {T} P h k client sound each listed =
+    let found = contains_item listed.0 h.timers.timers (sound.timed k listed.0 listed.1) in
+    let t = All-contains (IsTied h.places.slots h.clients) h.timers.timers found.0 sound.tied found.1 in
+    let same : t.client ≡ client = some_same t.client client (sym t.is ∙ ap (get h.clients) found.2 ∙ listed.2) in
+    subst P (sym t.deadline ∙ ap (λ (g : Client T). g.deadline) same) (All-contains (λ (u : Timer). P u.deadline) h.timers.timers found.0 each found.1)
+
 -- the keys in use are below the bound
 pub held_more : (old new : List Slot) (conn key most most' : ℕ) → ((k j : ℕ) → Has old k j → j < most) → Gains old new conn key → key < most' → most' ≡ most → (k j : ℕ) → Has new k j → j < most'
 held_more old new conn key most most' held gains below same k j has = by (gains.only k j has)

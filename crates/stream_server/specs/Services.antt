@@ -53,6 +53,12 @@ Polls Nobody P fits old new = new ≡ old
 Polls (Released client) P fits old new = IsReleased P fits old new client
 Polls Memory P fits old new = Unit {0}
 
+-- the deadline of a client that a poll gives back is this one at the soonest
+abbrev pub BeginsAgain : {T : Type 0} → Polled T → ℕ → Type 0
+BeginsAgain Nobody deadline = Unit {0}
+BeginsAgain (Released client) deadline = deadline ≤ client.deadline
+BeginsAgain Memory deadline = Unit {0}
+
 -- what ties the service to its table after a poll
 abbrev pub TiesAfter : {T : Type 0} → Polled T → Type 0 → (ℕ → Type 0) → Type 0
 TiesAfter Nobody whole but = whole

@@ -23,6 +23,10 @@ IsListed table k (Some client) = (key : ℕ) × Has table.places k key × (get t
 abbrev pub IsAbsent : {T : Type 0} → SeenTable T → ℕ → Type 0
 IsAbsent {T} table k = (client : Client T) → IsListed table k (Some client) → ⊥
 
+-- each deadline of those that are listed is such a number
+abbrev pub EachDeadline : {T : Type 0} → (ℕ → Type 0) → SeenTable T → Type 0
+EachDeadline {T} P table = (k : ℕ) (client : Client T) → IsListed table k (Some client) → P client.deadline
+
 -- how many are listed
 abbrev pub client_count : {T : Type 0} → SeenTable T → ℕ
 client_count table = slab_len table.clients

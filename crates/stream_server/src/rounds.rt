@@ -1,5 +1,5 @@
 //! The server's loop.
-ghost use Rattle.std.specs.Prelude.{◌≡◌, ◌≢◌, ℕ, ◌+◌, ◌<◌, ◌≤◌, Some, None, Ok, Err, true, false, [], Option, length, IsSome, OnOk, OnErr, IfOk};
+ghost use Rattle.std.specs.Prelude.{◌≡◌, ◌≢◌, ◌⊎◌, ℕ, ◌+◌, ◌<◌, ◌≤◌, Some, None, Ok, Err, true, false, [], Option, length, min, IsSome, OnOk, OnErr, IfOk, IfSome};
 ghost use Rattle.std.specs.List.{All};
 ghost use Rattle.gv_values.specs.Counts.{HasRisen};
 ghost use Rattle.stream_net.specs.Net.{IsFresh, IsLive};
@@ -8,7 +8,9 @@ ghost use Rattle.stream_server.specs.Running.{AsksInVain, IsRunning, IsRunningBu
 ghost use Rattle.stream_server.specs.Keeping.{Fares, HasAccepted, IsStill, Keeps};
 ghost use Rattle.stream_server.specs.Serving.{IsAllServed};
 ghost use Rattle.stream_server.specs.Ranges.{IsInRange};
-ghost use Rattle.stream_server.specs.Tables.{IsListed, SeenTable, client_count};
+ghost use Rattle.stream_server.specs.Services.{BeginsAgain, Polls, TiesAfter};
+ghost use Rattle.stream_server.specs.Tables.{EachDeadline, IsListed, SeenTable, client_count};
+ghost use Rattle.stream_server.specs.declared.client.TheConstants.{NEVER};
 ghost use Rattle.stream_server.specs.declared.client.Client.{Client};
 
 use crate::client::{Client, NEVER};
@@ -221,6 +223,27 @@ fn accept_clients<T: Drop, W, V: Service<T, W>, N: Net, H: Wait>(
     Ok(count)
 }
 
+/// Asks whether a reply has come. The idle time of the client that was held for it begins again.
+fn poll_reply<T: Drop, W, V: Service<T, W>, N: Net>(
+    net: &N,
+    service: &mut V,
+    world: &mut W,
+    table: &mut ClientTable<T>,
+    idle: u64,
+) -> Polled<T>
+    requires { (accepted : ℕ) × V.tied service.old world.old table.old accepted }
+    ensures polled { Polls result V.protocol (V.fits service.new world.new) table.old table.new }
+    ensures tied { (accepted : ℕ) → V.tied service.old world.old table.old accepted
+        → TiesAfter result (V.tied service.new world.new table.new accepted) (λ conn. V.tied_but service.new world.new table.new accepted conn) }
+    ensures fits { (apps : Apps) → V.fits service.new world.new apps → V.fits service.old world.old apps }
+    ensures sound { V.sound service.new world.new }
+    ensures workers { V.workers world.new ≡ V.workers world.old }
+    ensures again { BeginsAgain result (min ((N.meaning net.now).moment + idle) NEVER) }
+{
+    let deadline = net.now().saturating_add(idle);
+    service.poll(world, table, deadline)
+}
+
 /// Asks whether a reply has come, where one is waited for, and goes on with the connection that was held for it.
 fn poll_service<T: Drop, W, V: Service<T, W>, N: Net, H: Wait>(
     serving: &Serving<H>,
@@ -241,8 +264,8 @@ fn poll_service<T: Drop, W, V: Service<T, W>, N: Net, H: Wait>(
     if service.is_idle() {
         return Ok(());
     }
-    let deadline = net.now().saturating_add(serving.terms.limits.idle);
-    match service.poll(world, table, deadline) {
+    let idle = serving.terms.limits.idle;
+    match poll_reply::<T, W, V, N>(net, service, world, table, idle) {
         Polled::Nobody => Ok(()),
         Polled::Released(client) => {
             net.hold(client.conn, false);
@@ -301,7 +324,8 @@ fn until<T: Drop, W, V: Service<T, W>, N: Net>(
     service: &V,
     table: &ClientTable<T>,
 ) -> Option<u64>
-    ensures { 0 < client_count table.now → IsSome result }
+    ensures ends { 0 < client_count table.now → IsSome result }
+    ensures soon { IfSome result (λ at. EachDeadline (λ deadline. (at ≤ deadline) ⊎ (at ≤ (N.meaning net.now).moment + 1)) table.now) }
 {
     // Where a reply is waited for, a client is listed.
     let least = table.least()?;
@@ -356,6 +380,8 @@ fn close_idle<T: Drop, W, V: Service<T, W>, N: Net, H>(
     requires { IsRunning V.protocol (V.fits service.now world.now) (V.tied service.now world.now) serving.now.terms (N.meaning net.old) table.old }
     ensures running { IsRunning V.protocol (V.fits service.now world.now) (V.tied service.now world.now) serving.now.terms (N.meaning net.new) table.new }
     ensures keeps { Keeps (N.meaning net.old) (N.meaning net.new) }
+    // Nobody whose time is over is left.
+    ensures closed { EachDeadline (λ deadline. deadline < NEVER → (N.meaning net.old).moment < deadline) table.new }
 {
     // Whose deadline is `NEVER` is not due even at the greatest moment.
     let now = net.now().min(NEVER - 1);

@@ -3,7 +3,7 @@ ghost use Rattle.std.specs.Prelude.{◌≡◌, ℕ, ◌+◌, ◌<◌, ◌≤◌,
 ghost use Rattle.wsgi_core.specs.Applications.{App};
 ghost use Rattle.wsgi_core.specs.Standings.{IsBegun, IsFed, IsTaken, IsToldTheEnd};
 ghost use Rattle.stream_server.specs.Protocols.{Apps, IsLawful, Protocol, side_of};
-ghost use Rattle.stream_server.specs.Services.{AreBeside, Closes, IsCutAt, IsGiven, IsGivenCut, IsHeldFrom, Polls, TiesAfter};
+ghost use Rattle.stream_server.specs.Services.{AreBeside, BeginsAgain, Closes, IsCutAt, IsGiven, IsGivenCut, IsHeldFrom, Polls, TiesAfter};
 ghost use Rattle.stream_server.specs.Tables.{IsListed, Relists, SeenTable};
 ghost use Rattle.stream_server.specs.declared.client.Client.{Client};
 
@@ -135,6 +135,7 @@ pub trait Service<T, W> {
     fn poll(&mut self, world: &mut W, table: &mut ClientTable<T>, deadline: u64) -> Polled<T>
         requires { (accepted : ℕ) × tied self.old world.old table.old accepted }
         ensures polled { Polls result protocol (fits self.new world.new) table.old table.new }
+        ensures again { BeginsAgain result deadline }
         ensures tied { (accepted : ℕ) → tied self.old world.old table.old accepted
             → TiesAfter result (tied self.new world.new table.new accepted) (λ conn. tied_but self.new world.new table.new accepted conn) }
         ensures fits { (apps : Apps) → fits self.new world.new apps → fits self.old world.old apps }

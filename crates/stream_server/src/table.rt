@@ -51,7 +51,7 @@ impl<T> Model for ClientTable<T> {
 }
 
 impl<T: Drop> ClientTable<T> {
-    ghost use Rattle.stream_server.specs.Tables.{IsAbsent, IsListed, Relists, client_count, with_members};
+    ghost use Rattle.stream_server.specs.Tables.{EachDeadline, IsAbsent, IsListed, Relists, client_count, with_members};
     ghost use Rattle.stream_server.specs.declared.client.Client.{Client};
 
     /// Nobody is listed or admitted, and so many fit.
@@ -116,7 +116,8 @@ impl<T: Drop> ClientTable<T> {
 
     /// The least deadline of those that are listed.
     pub fn least(&self) -> Option<u64>
-        ensures { 0 < client_count self.now → IsSome result }
+        ensures some { 0 < client_count self.now → IsSome result }
+        ensures least { IfSome result (λ deadline. EachDeadline (λ other. deadline ≤ other) self.now) }
     {
         self.timers.least()
     }
@@ -170,6 +171,7 @@ impl<T: Drop> ClientTable<T> {
         ensures relists { IfSome result (λ client. Relists self.old self.new client.conn None) }
         ensures count { IfSome result (λ _. client_count self.new + 1 ≡ client_count self.old) }
         ensures same { IfNone result (self.new ≡ self.old) }
+        ensures none { IfNone result (EachDeadline (λ deadline. now < deadline) self.old) }
     {
         timers_differ(&self.timers);
         let Some(key) = self.timers.take_due(now) else {

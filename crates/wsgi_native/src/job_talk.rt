@@ -59,6 +59,7 @@ pub fn freed(client: Client<JobTalk>, deadline: u64) -> Client<JobTalk>
     ensures free { result.talk.held ≡ None }
     ensures ended { result.ended ≡ client.ended }
     ensures later { deadline_in client.talk.held ≤ result.deadline }
+    ensures again { deadline ≤ result.deadline }
 {
     let Client {
         conn,

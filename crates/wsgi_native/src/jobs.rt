@@ -5,6 +5,7 @@ ghost use Rattle.wsgi_core.specs.Applications.{App};
 ghost use Rattle.wsgi_core.specs.Steps.{asked_of};
 ghost use Rattle.stream_server.specs.Protocols.{Apps};
 ghost use Rattle.world_rules.specs.Legal.{is_posted};
+ghost use Rattle.stream_server.specs.Services.{BeginsAgain};
 ghost use Rattle.stream_server.specs.Tables.{IsListed, SeenTable};
 ghost use Rattle.stream_server.specs.declared.client.Client.{Client};
 ghost use Rattle.wsgi_native.specs.declared.job_talk.JobTalk.{JobTalk};
@@ -72,7 +73,8 @@ fn give(
     deadline: u64,
 ) -> Polled<JobTalk>
     requires { HasAsked client.talk }
-    ensures { Gives result outcome client }
+    ensures gives { Gives result outcome client }
+    ensures again { BeginsAgain result deadline }
 {
     let Ok(reply) = job_reply(alloc, outcome) else {
         return Polled::Memory;

@@ -17,7 +17,7 @@ pub serve_natively-requires-clause-few : goal.serve_natively-requires-clause-few
 serve_natively-requires-clause-few g c = few_server_workers c.args.options.answers _ c.in-Jobs.is c.requires.answers_in_range
 
 pub returns-in-Application-clause-serves : goal.returns-in-Application-clause-serves
-returns-in-Application-clause-serves g c = served_with_app c.args.options.answers c.in-Application.gateway _ _ _ _ _ _ _ _ _ _ c.in-Application.is c.limits_of-limits.ensures c.serve_through.ensures.serves
+returns-in-Application-clause-serves g c = served_with_app c.args.options.answers c.in-Application.gateway _ _ _ _ _ _ _ _ _ _ _ c.in-Application.is c.limits_of-limits.ensures c.serve_through.ensures.serves
 
 pub returns-in-Jobs-clause-serves : goal.returns-in-Jobs-clause-serves
-returns-in-Jobs-clause-serves g c = served_with_jobs c.args.options.answers c.in-Jobs.workers _ _ _ _ _ _ _ _ _ _ c.in-Jobs.is c.limits_of-limits.ensures c.serve_natively.ensures.serves
+returns-in-Jobs-clause-serves g c = served_with_jobs c.args.options.answers c.in-Jobs.workers _ _ _ _ _ _ _ _ _ _ _ c.in-Jobs.is c.limits_of-limits.ensures c.serve_natively.ensures.serves

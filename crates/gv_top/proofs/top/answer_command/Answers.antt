@@ -1,7 +1,7 @@
 use Rattle.std.proofs.Common.{◌≡◌, ◌∙◌, Some, ap, arith, refl}
 use Rattle.gv_top.specs.declared.words.OfflineCommand.{OfflineCommand}
 use Rattle.gv_top.proofs.Checking.{check_is_no_storm, check_is_no_text, text_is_no_check}
-use Rattle.gv_top.proofs.Deciding.{answer_as, connection_decided, decided_as, no_command, of_connection, text_decided, usage_decided}
+use Rattle.gv_top.proofs.Deciding.{answer_as, connection_decided, decided_as, no_command, of_connection, text_decided, text_is_no_connection, usage_decided}
 use Rattle.gv_top.proofs.Tops.{connection_explained, connection_reads, connection_status, connection_writes, left_alone}
 use Rattle.gv_top.proofs.Handing.{command_began, connection_hands, none_began}
 use Rattle.gv_top.proofs.InWorlds.{text_ran}
@@ -47,13 +47,13 @@ returns-in-None-clause-began g c = λ text e left told. none_began _ _ _ _ _ _ _
 
 pub returns-in-Some-Text-clause-began : goal.returns-in-Some-Text-clause-began
 returns-in-Some-Text-clause-began g c = λ text e left told.
-    command_began _ c.in-Some-Text.command text _ _ _ _ _ _ (rw e at c.in-Some-Text.field-0-is) (c.answer_input.ensures.began left told)
+    command_began _ c.in-Some-Text.command text _ _ _ _ _ _ _ _ (rw e at c.in-Some-Text.field-0-is) (c.answer_input.ensures.began left told)
 
 pub returns-in-Some-Wsgi-clause-began : goal.returns-in-Some-Wsgi-clause-began
-returns-in-Some-Wsgi-clause-began g c = λ text e left told. none_began _ _ _ _ _ _ _
+returns-in-Some-Wsgi-clause-began g c = λ text e left told. absurd (text_is_no_connection text c.in-Some-Wsgi.gateway (rw e at c.in-Some-Wsgi.field-0-is))
 
 pub returns-in-Some-Storm-clause-began : goal.returns-in-Some-Storm-clause-began
-returns-in-Some-Storm-clause-began g c = λ text e left told. none_began _ _ _ _ _ _ _
+returns-in-Some-Storm-clause-began g c = λ text e left told. absurd (text_is_no_storm text c.in-Some-Storm.size (rw e at c.in-Some-Storm.field-0-is))
 
 pub returns-in-Some-Wsgi-clause-hands : goal.returns-in-Some-Wsgi-clause-hands
 returns-in-Some-Wsgi-clause-hands g c = connection_hands c.answer_through.result _ _ _ _ _ c.verdict_of_connection.ensures c.answer_through.ensures.handed
@@ -62,7 +62,7 @@ pub returns-in-Some-Verify-clause-left_alone : goal.returns-in-Some-Verify-claus
 returns-in-Some-Verify-clause-left_alone g c = left_alone _ _ _ _ refl
 
 pub returns-in-Some-Verify-clause-began : goal.returns-in-Some-Verify-clause-began
-returns-in-Some-Verify-clause-began g c = λ text e left told. none_began _ _ _ _ _ _ _
+returns-in-Some-Verify-clause-began g c = λ text e left told. absurd (text_is_no_check text c.in-Some-Verify.check (rw e at c.in-Some-Verify.field-0-is))
 
 pub returns-in-None-clause-read_trace : goal.returns-in-None-clause-read_trace
 returns-in-None-clause-read_trace g c = λ check is left told h4 h7. no_command _ _ _ c.in-None.is is

@@ -65,5 +65,6 @@ pub returns-in-Ok-clause-began : goal.returns-in-Ok-clause-began
 returns-in-Ok-clause-began g c = λ left told.
     let P : List ℕ → Type 0 = λ bytes.
     BeganText g.W.World.waits c.args.command bytes (g.W.World.meaning c.args.native.now) (g.W.World.meaning c.answer_text.new.native)
-    (g.K.Sink.written c.args.out.now) (g.K.Sink.written c.answer_text.new.out) (g.K.Sink.handed c.answer_text.new.out) in
+    (g.K.Sink.written c.args.out.now) (g.K.Sink.written c.answer_text.new.out) (g.K.Sink.handed c.answer_text.new.out)
+    (g.K.Sink.faults c.args.out.now) (g.K.Sink.faults c.answer_text.new.out) in
     subst P (c.as_slice.ensures.value ∙ read_first most_read left _ _ told c.in-Ok.ensures.first) c.answer_text.ensures.began

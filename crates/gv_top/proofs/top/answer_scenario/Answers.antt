@@ -48,7 +48,7 @@ pub returns-in-Run-clause-writes : goal.returns-in-Run-clause-writes
 returns-in-Run-clause-writes g c = run_counts c.run_scenario.result _ _ _ c.verdict_of_run.ensures c.run_scenario.ensures.counts
 
 pub returns-in-Run-clause-began : goal.returns-in-Run-clause-began
-returns-in-Run-clause-began g c = scenario_began _ c.args.command c.in-Run.options c.args.checked _ _ _ _ _ c.in-Run.is c.run_scenario.ensures.began
+returns-in-Run-clause-began g c = scenario_began _ c.args.command c.in-Run.options c.args.checked _ _ _ _ _ _ _ c.in-Run.is c.run_scenario.ensures.began
 
 pub returns-in-Format-clause-began : goal.returns-in-Format-clause-began
 returns-in-Format-clause-began g c = λ options e. format_runs_nothing c.args.command options _ c.in-Format.is e

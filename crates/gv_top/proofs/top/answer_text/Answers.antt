@@ -43,4 +43,4 @@ pub returns-in-Err-clause-began : goal.returns-in-Err-clause-began
 returns-in-Err-clause-began g c = none_began _ _ _ _ _ _ _
 
 pub returns-in-Ok-clause-began : goal.returns-in-Ok-clause-began
-returns-in-Ok-clause-began g c = text_began _ c.args.command c.args.bytes.now _ _ _ _ _ _ c.in-Ok.ensures.judged c.answer_scenario.ensures.began
+returns-in-Ok-clause-began g c = text_began _ c.args.command c.args.bytes.now _ _ _ _ _ _ _ _ c.in-Ok.ensures.judged c.answer_scenario.ensures.began

@@ -1,6 +1,6 @@
 use Rattle.std.proofs.Common.{inl, inr, refl}
 use Rattle.machine.specs.Run.{Source}
-use Rattle.run_command.proofs.InWorlds.{left_as_it_was, ran_natively}
+use Rattle.run_command.proofs.InWorlds.{left_as_it_was, logged_natively, ran_natively}
 use Rattle.run_command.proofs.running.run_natively.Goals as goal
 
 pub returns-in-Some-clause-native : goal.returns-in-Some-clause-native
@@ -22,10 +22,16 @@ pub returns-in-None-clause-begun : goal.returns-in-None-clause-begun
 returns-in-None-clause-begun g c = inr (c.in-None.ensures.unwritten, refl)
 
 pub returns-in-Some-clause-began : goal.returns-in-Some-clause-began
-returns-in-Some-clause-began g c = inl (c.in-Some.ensures.ran.ahead, c.in-Some.ensures.ahead)
+returns-in-Some-clause-began g c =
+    let ran = c.in-Some.ensures.ran in
+    inl (record {
+      written = ran.ahead;
+      handed = c.in-Some.ensures.ahead;
+      logged = logged_natively _ _ _ (λ log stood. g.met.W.World.log_is c.run_in_world.new.world log stood) ran.part ran.legal;
+    })
 
 pub returns-in-None-clause-began : goal.returns-in-None-clause-began
-returns-in-None-clause-began g c = inr c.in-None.ensures.kept
+returns-in-None-clause-began g c = inr (c.in-None.ensures.kept, (c.in-None.ensures.unwritten, refl))
 
 pub returns-in-Some-clause-hands : goal.returns-in-Some-clause-hands
 returns-in-Some-clause-hands g c = c.in-Some.ensures.hands

@@ -1,7 +1,7 @@
-use Rattle.std.proofs.Common.{inr, refl, sym, ◌∙◌}
-use Rattle.run_command.proofs.InWorlds.{begun_by_held, begun_by_script, begun_by_workers, few_held, few_workers, held_began_so, held_so, ran_by_held, ran_by_script, ran_by_workers, some_held, some_workers}
+use Rattle.std.proofs.Common.{inr, refl}
+use Rattle.run_command.proofs.InWorlds.{begun_by_held, begun_by_script, begun_by_workers, few_held, few_workers, held_so, ran_by_held, ran_by_script, ran_by_workers, some_held, some_workers}
 use Rattle.gv_io.proofs.StreamLaws.{AppendsPrefix-nothing}
-use Rattle.run_command.proofs.Handing.{began_held, began_natively}
+use Rattle.run_command.proofs.Handing.{began_held, began_natively, began_script}
 use Rattle.run_command.proofs.running.run_scenario.Goals as goal
 
 pub unreachable-requires : goal.unreachable-requires
@@ -56,30 +56,19 @@ pub returns-in-Held-clause-begun : goal.returns-in-Held-clause-begun
 returns-in-Held-clause-begun g c =
     begun_by_held _ c.args.options c.in-Held.workers _ c.args.checked c.in-Ok.engine _ _ c.in-Ok.ensures.prepared c.in-Held.is c.run_held.ensures.lawful
 
-pub returns-in-Err-Memory-clause-held_began : goal.returns-in-Err-Memory-clause-held_began
-returns-in-Err-Memory-clause-held_began g c = λ workers held. inr (refl, refl)
-
-pub returns-in-Script-clause-held_began : goal.returns-in-Script-clause-held_began
-returns-in-Script-clause-held_began g c = λ workers held. absurd (cc (sym c.in-Script.is ∙ held))
-
-pub returns-in-Native-clause-held_began : goal.returns-in-Native-clause-held_began
-returns-in-Native-clause-held_began g c = λ workers held. absurd (cc (sym c.in-Native.is ∙ held))
-
-pub returns-in-Held-clause-held_began : goal.returns-in-Held-clause-held_began
-returns-in-Held-clause-held_began g c = λ workers held. held_began_so _ _ c.args.options c.args.checked _ c.in-Ok.engine _ _ _ c.in-Ok.ensures.prepared c.run_held.ensures.began
-
 pub returns-in-Err-Memory-clause-began : goal.returns-in-Err-Memory-clause-began
-returns-in-Err-Memory-clause-began g c = inr refl
+returns-in-Err-Memory-clause-began g c = inr (record { unwritten = refl; untried = refl; kept = λ workers natively. refl })
 
 pub returns-in-Script-clause-began : goal.returns-in-Script-clause-began
-returns-in-Script-clause-began g c = inr refl
+returns-in-Script-clause-began g c = began_script _ c.args.options c.in-Script.tick c.args.checked _ _ _ _ _ _ _ c.in-Script.is
 
 pub returns-in-Native-clause-began : goal.returns-in-Native-clause-began
 returns-in-Native-clause-began g c =
-    began_natively _ c.args.options c.in-Native.workers c.args.checked _ _ c.in-Ok.engine _ _ _ c.in-Ok.ensures.prepared c.in-Native.is c.run_natively.ensures.began
+    began_natively _ c.args.options c.in-Native.workers c.args.checked _ _ c.in-Ok.engine c.run_natively.result _ _ _ _ _ c.in-Ok.ensures.prepared c.in-Native.is c.run_natively.ensures.counts c.run_natively.ensures.began
 
 pub returns-in-Held-clause-began : goal.returns-in-Held-clause-began
-returns-in-Held-clause-began g c = began_held _ c.args.options c.in-Held.workers c.args.checked _ _ _ _ _ c.in-Held.is
+returns-in-Held-clause-began g c =
+    began_held _ c.args.options c.in-Held.workers c.args.checked _ _ c.in-Ok.engine c.run_held.result _ _ _ _ _ c.in-Ok.ensures.prepared c.in-Held.is c.run_held.ensures.counts c.run_held.ensures.began
 
 pub returns-in-Err-Memory-clause-hands : goal.returns-in-Err-Memory-clause-hands
 returns-in-Err-Memory-clause-hands g c = λ w m. absurd (m refl)

@@ -1,6 +1,8 @@
-use Rattle.std.proofs.Common.{ℕ, arith, List, Some, sym, subst}
+use Rattle.std.proofs.Common.{◌≡◌, ◌<◌, ◌-◌, ℕ, arith, min, List, Some, sym, subst}
+use Rattle.stream_server.specs.declared.client.TheConstants.{NEVER}
 use Rattle.std.specs.List.{Contains}
 use Rattle.stream_net.specs.Net.{closed_at, connection_at}
+use Rattle.stream_server.specs.Tables.{IsListed}
 use Rattle.stream_server.proofs.Rounding.{idle_free, running_idle}
 use Rattle.stream_server.proofs.Turns.{keeps_more}
 use Rattle.stream_server.proofs.rounds.close_idle.Goals as goal
@@ -38,3 +40,10 @@ loop-client-preserved g c =
       short = was.short;
       past = omega (arith, was.past, rises);
     }
+
+not_due : (moment now deadline : ℕ) → now ≡ min moment (NEVER - 1) → now < deadline → deadline < NEVER → moment < deadline
+not_due moment now deadline is late fits = omega (arith, is, late, fits)
+
+pub returns-clause-closed : goal.returns-clause-closed
+returns-clause-closed g c = λ k client listed fits. not_due _ c.min-now.result client.deadline c.min-now.ensures
+    (c.in_default.ensures.none k client (subst (λ s. IsListed s k (Some client)) c.in_default.ensures.same listed)) fits

@@ -6,8 +6,8 @@ use Rattle.wsgi_core.specs.declared.session.Session.{Session}
 use Rattle.wsgi_native.specs.Talks.{request_of}
 use Rattle.wsgi_native.proofs.jobs.give.Goals as goal
 
-pub returns : goal.returns
-returns c =
+pub returns-clause-gives : goal.returns-clause-gives
+returns-clause-gives c =
     let e = c.freed.ensures in
     record {
       conn = e.conn;

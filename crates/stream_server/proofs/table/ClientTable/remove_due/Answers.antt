@@ -1,6 +1,6 @@
-use Rattle.std.proofs.Common.{subst, refl, Some, None}
+use Rattle.std.proofs.Common.{◌<◌, subst, sym, refl, Some, None}
 use Rattle.stream_server.specs.Tables.{SeenTable, IsListed, Relists}
-use Rattle.stream_server.proofs.Tabling.{due_client, due_is_held, due_here, less_sound, relists_less}
+use Rattle.stream_server.proofs.Tabling.{due_client, due_is_held, due_here, less_sound, listed_deadline, relists_less}
 use Rattle.stream_server.proofs.table.ClientTable.remove_due.Goals as goal
 
 pub remove-client-requires : goal.remove-client-requires
@@ -44,3 +44,9 @@ returns-clause-relists g c =
     let now : SeenTable g.row.T.Denot = record { places = c.remove.new.self.slots; clients = c.remove-client.new.self; members = h.members; limit = h.limit } in
     subst (λ (s : SeenTable g.row.T.Denot). Relists s now c.remove-client.result.conn None) c.self.view_is
     (relists_less h.places.slots c.remove.new.self.slots h.clients c.remove-client.new.self c.remove-client.result.conn c.in-Some.key c.self.invariant.stands here.0 c.remove.ensures.loses c.remove-client.ensures.updates h.members h.limit)
+
+pub returns-in_default-clause-none : goal.returns-in_default-clause-none
+returns-in_default-clause-none g c = λ k client listed.
+    let h = c.self.inside in
+    listed_deadline (λ n. c.args.now < n) h k client c.self.invariant (c.take_due.ensures.none.0 c.in_default.is)
+    (subst (λ (s : SeenTable g.row.T.Denot). IsListed s k (Some client)) (sym c.self.view_is) listed)

@@ -47,14 +47,14 @@ returns-in-Some-remove-clause-polled g c =
     let stored = (subst (λ (a : Answer). Stores (g.W.World.meaning c.args.world.now) (g.W.World.meaning c.ask.new.self) a) c.in-Done.is c.in-Ok.ensures.stored) in
     let right = (subst (λ (a : Answer). IsLegal (g.W.World.meaning c.args.world.now).posts (g.W.World.meaning c.args.world.now).answers Question.Poll a) c.in-Done.is c.in-Ok.ensures.legal).0.0 in
     gives_polled (g.W.World.meaning c.args.world.now) (g.W.World.meaning c.ask.new.self) (owner_in c.args.self.now.owners.list) c.args.self.now.posted (get nat_eq c.args.self.now.waiting) (get nat_eq c.remove.new.self) c.args.table.now c.remove-in-Done.new.self c.in-Some.conn c.in-Done.number c.in-Done.outcome c.in-Done.at c.in-Some-remove.client
-    stored right (sym c.remove.ensures.value ∙ c.in-Some.is) c.in-Some-remove.ensures.was c.in-Some-remove.ensures.number c.remove.ensures.updates.0 c.in-Some-remove.ensures.relists c.in-Some-remove.ensures.count c.give.result c.requires.0 c.requires.1.0 c.give.ensures
+    stored right (sym c.remove.ensures.value ∙ c.in-Some.is) c.in-Some-remove.ensures.was c.in-Some-remove.ensures.number c.remove.ensures.updates.0 c.in-Some-remove.ensures.relists c.in-Some-remove.ensures.count c.give.result c.requires.0 c.requires.1.0 c.give.ensures.gives
 
 pub returns-in-Some-remove-clause-tied : goal.returns-in-Some-remove-clause-tied
 returns-in-Some-remove-clause-tied g c = λ accepted tied.
     let stored = (subst (λ (a : Answer). Stores (g.W.World.meaning c.args.world.now) (g.W.World.meaning c.ask.new.self) a) c.in-Done.is c.in-Ok.ensures.stored) in
     let right = (subst (λ (a : Answer). IsLegal (g.W.World.meaning c.args.world.now).posts (g.W.World.meaning c.args.world.now).answers Question.Poll a) c.in-Done.is c.in-Ok.ensures.legal).0.0 in
     gives_posted _ _ _ c.give.result (posted_asked _ _ _ _ _ _ _ c.in-Ok.ensures.legal c.in-Ok.ensures.stored c.in-Ok.ensures.log tied.1) (gives_tied (g.W.World.meaning c.args.world.now) (g.W.World.meaning c.ask.new.self) (owner_in c.args.self.now.owners.list) c.args.self.now.posted (get nat_eq c.args.self.now.waiting) (get nat_eq c.remove.new.self) c.args.table.now c.remove-in-Done.new.self c.in-Some.conn c.in-Done.number c.in-Done.outcome c.in-Done.at c.in-Some-remove.client
-    stored right (sym c.remove.ensures.value ∙ c.in-Some.is) c.in-Some-remove.ensures.was c.in-Some-remove.ensures.number c.remove.ensures.updates.0 c.in-Some-remove.ensures.relists c.in-Some-remove.ensures.count c.give.result accepted tied.0 c.give.ensures)
+    stored right (sym c.remove.ensures.value ∙ c.in-Some.is) c.in-Some-remove.ensures.was c.in-Some-remove.ensures.number c.remove.ensures.updates.0 c.in-Some-remove.ensures.relists c.in-Some-remove.ensures.count c.give.result accepted tied.0 c.give.ensures.gives)
 
 pub returns-in-Some-remove-clause-fits : goal.returns-in-Some-remove-clause-fits
 returns-in-Some-remove-clause-fits g c = agreed_earlier (g.W.World.meaning c.args.world.now) (g.W.World.meaning c.ask.new.self) (owner_in c.args.self.now.owners.list) c.in-Ok.answer c.in-Ok.ensures.stored
