@@ -153,13 +153,14 @@ class Reader:
             self.profile(words, is_first)
         elif word in PROFILE_2 and not two:
             words.refuse(5, "a word of profile 1", 0)
-        elif word in DECLARATIONS or word in ("def", "rawdef"):
+        elif word in DECLARATIONS:
+            if self.open or self.scenario.functions:
+                words.refuse(13, "a place above all functions", 0)
+            self.scenario.objects.append(declaration(words, word))
+        elif word in ("def", "rawdef"):
             if self.open:
                 words.refuse(13, "a place outside of all functions", 0)
-            if word in ("def", "rawdef"):
-                self.define(words, word)
-            else:
-                self.scenario.objects.append(declaration(words, word))
+            self.define(words, word)
         elif word in MIDDLE or word == "end":
             self.block_word(words, word)
         elif word in SHAPES:
