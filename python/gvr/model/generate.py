@@ -1,198 +1,16 @@
 """Texts of scenarios, made by chance: the same number gives the same text.
 
-colliding(seed, ..) makes a scenario in which things collide: greenlets wait on a few shared objects, and all times are
-0, 5 or 10, so that deadlines, sleeps and effects fall on one moment; each wait is followed by a print of what it gave.
-wild(seed) makes a scenario of any statements on any operands, right or wrong. mutated(text, chance) makes one or a few
-changes of a text, of which most are refused.
+wild(seed) makes a scenario of any statements on any operands, right or wrong, in profile 2. mutated(text, chance) makes
+one or a few changes of a text, of which most are refused.
 """
 import random
-import re
-from typing import Dict, List, Sequence, Tuple
+from typing import List, Sequence
 
-from .run import refusals
 from .syntax import BINARY, BLOCKS, GIVES, IN_RAW, JOBS, OBJECTS, QUERIES, SHAPES, UNARY, WORDS
 from .values import CLASSES, WRITTEN_FAULTS
 
-# Of each theme its declarations, of which one is taken, and what a body does with it: `|` ends a line, a part between
-# braces is made anew. An act that is written twice comes twice as often.
-_UNITS = ("x <- acquire {o}{wait}|print x", "x <- acquire {o}{wait}|print x", "release {o}", "release {o}",
-          "release {o}|x <- acquire {o}{wait}|print x", "acquire {o}|{say}|sleep {ms}|release {o}")
-_QUEUE = ("x <- qget {o}{wait}|print x", "x <- qget {o}{wait}|print x", "qput {o} {new}{wait}|{say}",
-          "qput {o} {new}{wait}|{say}", "qput {o} {new}|qput {o} {new}{wait}", "x <- qpeek {o}{wait}|print x",
-          "print qsize {o}")
-_TASKS = ("qdone {o}", "x <- qjoin {o}{timed}|print x", "print unfinished {o}", "x <- qget {o}{wait}|print x|qdone {o}")
-_CREW = ("y <- gspawn {o} k {new}|{say}", "gspawn {o} k {new}", "gjoin {o}{timed}|{say}",
-         "gkill {o}{maybe now}|{say}", "gkill {o} with Error 3|{say}", "print members {o}")
-THEMES: Dict[str, Tuple[Sequence[str], Sequence[str]]] = {
-    "sem": (("sem s 0", "sem s 0", "sem s 1"), _UNITS + ("print counter s",)),
-    "bsem": (("bsem b 1",), _UNITS + ("print counter b",)),
-    "rlock": (("rlock l",), _UNITS + ("release l|release l",)),
-    "event": (("event e",), ("x <- wait e{timed}|print x", "x <- wait e{timed}|print x", "set e", "set e", "clear e",
-                             "set e|clear e", "print isset e")),
-    "result": (("result r",), ("x <- rget r{wait}|print x", "x <- rwait r{timed}|print x", "rset r {new}",
-                               "rset r {new}", "rfail r Error {new}", "print isset r")),
-    "fifo": (("queue q fifo none",), _QUEUE),
-    "bounded": (("queue u fifo 1",), _QUEUE),
-    "prio": (("queue p prio none", "queue p prio 1", "queue p prio 2"), _QUEUE),
-    "lifo": (("queue v lifo none", "queue v lifo 1"), _QUEUE),
-    "join": (("queue t join none", "queue t join 1"), _TASKS + _QUEUE),
-    "channel": (("channel c",), ("cput c {new}|{say}", "x <- cget c|print x")),
-    "shut": (("queue z fifo none", "queue z fifo 1", "queue z join 2"),
-             _QUEUE + ("qshut z", "qshut z", "qshut z immediate")),
-    "group": (("group m",), _CREW),
-    "pool": (("pool o 1", "pool o 1", "pool o 2"), _CREW),
-    "map": (("group m", "pool o 1"), ("x <- map {o} k list 2 {new} {new}|print x",)),
-    "native": (("native n 1", "native n 2"),
-               ("j <- nspawn n {job} {new} takes {limit}|{say}|x <- get j{timed}|print x",
-                "nspawn n echo 1 takes {limit}|{say}")),
-    "timeouts": ((), ("try|{timeout}|{some}|end|except any f|print f|end", "{timeout}|{some}|end")),
-    "links": ((), ("link {h} k2", "linkvalue {h} k2", "linkfault {h} k2", "rawlink {h} mark {new}",
-                   "i <- link {h} k2|unlink i", "join {h}{timed}|{say}", "kill {h}|{say}")),
-    "kills": ((), ("kill {h}{wait}|{say}", "kill {h} now", "kill {h} now", "kill {h} with Error {new}{wait}|{say}",
-                   "x <- get {h}{wait}|print x", "join {h}{timed}|{say}", "print ready {h}")),
-    "joinall": ((), ("x <- joinall list 2 {h} {h}{count}{timed}|print len x",
-                     "killall list 2 {h} {h}{maybe now}|{say}", "killall list 2 {h} {h} with Error 4|{say}",
-                     "join {h}{timed}|{say}")),
-    "raw": ((), ("ra <- raw r1|x <- switch ra {new}|print x", "ra <- raw r1|x <- throw ra with Error {new}|print x",
-                 "ra <- raw r1|rb <- raw r2 under ra|x <- switch rb {new}|print x|x <- switch rb {new}|print x",
-                 "ra <- raw r2|x <- switch ra self|print x|x <- throw ra|print x",
-                 "ra <- raw r1|rb <- raw r1|setparent ra rb")),
-}
-# Of r1 and of r2 one body is taken; where r2 is sent a handle, it talks back.
-RAW_BODIES = ("rawdef r1 m0|print m0|return + m0 1|end", "rawdef r1 m0|raise Error 2|end",
-              "rawdef r1 m0|print m0|raise GreenletExit|end")
-RAW_TALKERS = ("rawdef r2 m0|try|w <- switch m0 8|print w|except any f|print f|end|return m0|end",
-               "rawdef r2 m0|ra <- raw r1|w <- switch ra 3|print w|return w|end")
-CLASSES_OFTEN = ("any", "any", "any", "Exception", "Timeout", "GreenletExit", "LoopExit")
 OPENING = ("def", "rawdef") + BLOCKS
 MIDDLE = ("else", "except", "finally")
-
-
-class Maker:
-    """Makes a scenario. profile: `short` (one theme, tiny bodies), `collide`, or `wide` (three of all themes). zero: with
-    waits of 0 ms too."""
-
-    def __init__(self, chance: random.Random, profile: str, zero: bool) -> None:
-        self.chance, self.profile, self.zero = chance, profile, zero
-        self.last_value = 10
-        self.objects: Dict[str, str] = {}               # of each theme its declaration, or nothing
-        self.handles: List[str] = []
-
-    def odds(self, share: float) -> bool:
-        """True in this share of the times."""
-        return self.chance.random() < share
-
-    def pick(self, *words: str) -> str:
-        """One of these."""
-        return self.chance.choice(words)
-
-    def new(self) -> str:
-        """A number that no other place of the text has."""
-        self.last_value += 1
-        return str(self.last_value)
-
-    def ms(self) -> str:
-        return self.pick("0", "0", "5", "5", "10")
-
-    def limit(self) -> str:
-        return self.pick("0", "0", "5") if self.zero and self.odds(0.5) else self.pick("5", "5", "10")
-
-    def part(self, word: str) -> str:
-        """What a part between braces becomes."""
-        if word in ("wait", "timed"):
-            if self.odds(0.55 if word == "wait" else 0.7):
-                return ""
-            return " now" if word == "wait" and self.odds(0.33) else f" within {self.limit()}"
-        made = {"new": self.new, "ms": self.ms, "limit": self.limit, "say": lambda: f"print {self.new()}",
-                "h": lambda: self.pick(*self.handles), "maybe now": lambda: self.pick("", " now"),
-                "count": lambda: self.pick("", " count 1"), "job": lambda: self.pick("echo", "sum", "fail", "collatz"),
-                "timeout": lambda: f"timeout {self.limit()}{self.pick('', '', ' silent')}",
-                "some": lambda: "|".join(self.some(1, 2))}
-        return made[word]()
-
-    def act(self, theme: str) -> List[str]:
-        """A few lines of a theme."""
-        act = self.chance.choice(THEMES[theme][1])
-        if "{h}" in act and not self.handles:
-            return [f"print {self.new()}"]
-        thing = self.objects[theme].split(" ")[1] if self.objects.get(theme) else ""
-        return re.sub(r"\{([a-z ]+)\}", lambda found: thing if found[1] == "o" else self.part(found[1]), act).split("|")
-
-    def some(self, least: int, most: int) -> List[str]:
-        """So many acts."""
-        made: List[str] = []
-        for _ in range(self.chance.randint(least, most)):
-            share = self.chance.random()
-            if share < 0.25:
-                made.append(f"sleep {self.ms()}")
-            elif share < 0.35:
-                made.append(f"print {self.new()}")
-            elif share < 0.45 and self.handles:
-                made += self.act("kills")
-            elif share < 0.52 and len(made) < 8:
-                made += ["try", *self.some(1, 2), *self.caught(), "end"]
-            else:
-                made += self.act(self.chance.choice(list(self.objects)))
-        return made
-
-    def caught(self) -> List[str]:
-        """What a try ends with."""
-        if self.odds(0.5):
-            return [f"except {self.pick(*CLASSES_OFTEN)} f", "print f"]
-        return ["finally", *(self.some(1, 1) if self.odds(0.5) else [f"print {self.new()}"])]
-
-    def choose(self) -> None:
-        """Chooses the themes and their objects."""
-        names = list(THEMES) if self.profile == "wide" else [name for name in THEMES if name not in ("native", "raw", "shut")]
-        count = {"short": 1, "wide": 3}.get(self.profile, self.chance.choice((1, 2, 2)))
-        for theme in self.chance.sample(names, count):
-            self.objects[theme] = self.chance.choice(THEMES[theme][0]) if THEMES[theme][0] else ""
-
-    def worker(self, number: int) -> Tuple[List[str], List[str]]:
-        """A function, and how main makes its greenlet."""
-        takes = self.pick(*self.handles) if self.handles and self.odds(0.4) else ""
-        before, self.handles = self.handles, ["h"] if takes else []
-        body = self.some(1, 2 if self.profile == "short" else 4)
-        self.handles = before
-        body += [f"return {self.new()}"] if self.odds(0.3) else []
-        call = " ".join(["w%d" % number, takes]).rstrip()
-        share = self.chance.random()
-        if share < 0.85:
-            lines = [f"g{number} <- spawn {call}"]
-        elif share < 0.93:
-            lines = [f"g{number} <- spawnlater {self.limit()} {call}"]
-        else:
-            lines = [f"g{number} <- new {call}"] + ([f"start g{number}"] if self.odds(0.7) else [])
-        self.handles = [*before, f"g{number}"]
-        return [f"def w{number}{' h' if takes else ''}", *body, "end"], lines
-
-    def scenario(self) -> str:
-        """The whole text."""
-        self.choose()
-        functions: List[str] = []
-        main = ["def main"]
-        for number in range(self.chance.choice((1, 2, 2, 3) if self.profile == "short" else (2, 2, 3, 3, 4))):
-            function, call = self.worker(number)
-            functions += function
-            main += call + ([f"sleep {self.ms()}"] if self.odds(0.25) else [])
-        main += [f"sleep {self.ms()}", *self.some(2, 3 if self.profile == "short" else 6)]
-        main += [f"join {handle} within {self.pick('10', '20')}" for handle in self.handles] + ["end"]
-        return indented(self.head(functions + main) + functions + main)
-
-    def head(self, lines: List[str]) -> List[str]:
-        """The profile, the objects, and the functions that acts name."""
-        objects = list(dict.fromkeys(declared for declared in self.objects.values() if declared))
-        text = "\n".join(lines) + "\n"
-        two = re.search(r"\b(channel|qshut)\b", "\n".join(objects) + text)
-        head = ["profile 2"] * bool(two) + objects
-        if re.search(r" k[ \n]", text):
-            head += ["def k n", f"sleep {self.ms()}", "print n", "return n", "end"]
-        if " k2" in text:
-            head += ["def k2 n", f"print {self.pick('n', '7')}", "end"]
-        if re.search(r" r[12]\b", text):
-            head += self.chance.choice(RAW_BODIES).split("|")
-            head += self.chance.choice(RAW_TALKERS).split("|")
-        return head
 
 
 def indented(lines: Sequence[str]) -> str:
@@ -204,15 +22,6 @@ def indented(lines: Sequence[str]) -> str:
         made.append("  " * depth + line + "\n")
         depth += word in OPENING or word in MIDDLE
     return "".join(made)
-
-
-def colliding(seed: object, profile: str = "collide", zero: bool = False) -> str:
-    """The scenario of this seed; where what comes is refused, as a timeout block too deep, that of a seed behind it."""
-    for again in range(100):
-        text = Maker(random.Random(f"{profile} {zero} {seed} {again}"), profile, zero).scenario()
-        if not refusals(text.encode()):
-            return text
-    raise AssertionError("no scenario comes of this seed")
 
 
 # ---------------------------------------------------------------- texts of any statements
