@@ -7,7 +7,7 @@ look at the text for the next statement, it asks.
 import re
 
 from gvr.model import grammar, machine as m
-from gvr.model.values import G, Raised, outcome_text, value_text, fault_text
+from gvr.model.values import Fault, G, Raised, value_text, fault_text
 from gvr.model.worlds import ScriptWorld
 
 
@@ -89,7 +89,7 @@ class Machine(m.Machine):
             self.leave_timeout(g, entry[1])
         final, fault = said[1], said[2]
         if fault is not None:
-            return trace_lines.read_outcome('fault', fault)
+            return ('fault', read_fault(fault))
         if final is None:
             return ('value', None)
         self.begin_move()
@@ -97,5 +97,10 @@ class Machine(m.Machine):
         if word == 'return':
             return ('value', self.eval(statement('print ' + text).e, g))
         if text == 'f':
-            return trace_lines.read_outcome('fault', self.port.record.by_number[g.number].kept_fault)
+            return ('fault', read_fault(self.port.record.by_number[g.number].kept_fault))
         return ('fault', self.eval(statement('print ' + text).e, g))
+
+
+def read_fault(text):
+    kind, _, number = text.rstrip(')').partition('(')
+    return Fault(kind, int(number) if number else None)

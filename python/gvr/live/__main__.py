@@ -1,0 +1,4 @@
+"""python -m gvr.live [options] PROGRAM [argument..]"""
+from .run import start
+
+start()
