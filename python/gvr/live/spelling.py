@@ -10,7 +10,7 @@ from .handles import IN_A_LIST
 from .record import Block, Bodies, Body, Node, Place, Record, Statement
 from .values import Legend
 
-HANDLE = re.compile(r'\bg([0-9]+)\b')
+HANDLE = re.compile(r'\Ag([0-9]+)\Z')
 
 
 class Spelt(NamedTuple):
@@ -228,16 +228,14 @@ class _Speller:
 
     def spelt(self, body: Body, statement: Statement) -> str:
         """The statement's text, with the handles as this body has them."""
-        text = statement.text
         lists: Dict[int, str] = {}
-        if statement.uses:
-            text = HANDLE.sub(lambda m: self.handle(body, int(m.group(1)), lists), text)
+        words = [HANDLE.sub(lambda m: self.handle(body, int(m.group(1)), lists), word) if statement.uses else word
+                 for word in statement.text.split(' ')]
         begun = statement.starts
         if begun is not None and begun.wanted:
-            words = text.split(' ')
-            handles = ' '.join(self.handle(body, n, lists) for n in begun.wanted)
-            text = '%s list %d %s %s' % (' '.join(words[:2]), 1 + len(begun.wanted), ' '.join(words[2:]), handles)
-        return text
+            handles = [self.handle(body, number, lists) for number in begun.wanted]
+            words[2:] = ['list %d' % (1 + len(handles)), *words[2:], *handles]
+        return ' '.join(words)
 
     def handle(self, body: Body, number: int, lists: Dict[int, str]) -> str:
         if number == body.number:
