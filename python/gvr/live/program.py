@@ -1,6 +1,7 @@
 """Runs a program: its `import gevent` gives the façade, its clock is that of the run, its prints are statements."""
 import builtins
 import importlib
+import os
 import random
 import sys
 from typing import Any, Dict, List, NamedTuple, Optional, Sequence, Tuple
@@ -78,11 +79,13 @@ def run_program(program: Program) -> Tuple[Session, Outcome]:
     clock.install()
     random.seed(program.seed)
     sys.argv = [program.path, *program.arguments]
+    sys.path.insert(0, os.path.dirname(os.path.abspath(program.path)))
     old, builtins.print = builtins.print, printer if program.prints else builtins.print
     try:
         return run, run.run(lambda: exec(code, names))
     finally:
         builtins.print = old
+        sys.path.pop(0)
         monkey.restore()
         unalias(before)
 
