@@ -6,10 +6,12 @@ GreenletExit = real.GreenletExit                 # gevent's is greenlet's
 
 class LoopExit(Exception):
     """This operation would block forever"""
+    __module__ = 'gevent.exceptions'             # as a traceback names it
 
 
 class InvalidSwitchError(AssertionError):
     """A switch to a greenlet of another host."""
+    __module__ = 'gevent.exceptions'
 
 
 class Unsupported(NotImplementedError):

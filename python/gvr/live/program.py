@@ -37,7 +37,7 @@ def alias() -> Dict[str, Any]:
     for name in before:
         del sys.modules[name]
     if NotSaid not in sys.meta_path:
-        sys.meta_path.insert(0, NotSaid)             # type: ignore[arg-type]
+        sys.meta_path.insert(0, NotSaid)
     sys.modules['gevent'] = importlib.import_module('gvr.gevent')
     for part in PARTS:
         sys.modules['gevent.' + part] = importlib.import_module('gvr.gevent.' + part)
@@ -51,7 +51,7 @@ def unalias(before: Dict[str, Any]) -> None:
         del sys.modules[name]
     sys.modules.update(before)
     if NotSaid in sys.meta_path:
-        sys.meta_path.remove(NotSaid)                # type: ignore[arg-type]
+        sys.meta_path.remove(NotSaid)   
 
 
 class Program(NamedTuple):

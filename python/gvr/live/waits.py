@@ -24,14 +24,20 @@ def who(session: Session, number: int) -> str:
 
 
 def waiting(session: Session) -> Dict[int, str]:
-    """What each greenlet that has parked and not gone on waits for, as its `park` line says."""
+    """What each greenlet that has parked and not gone on waits for, as its `park` line says; and main, where it ended
+    by the LoopExit that was thrown at its wait."""
     parked: Dict[int, str] = {}
+    stuck: Optional[str] = None
     for line in session.trace:
         words = line.split(' ', 2)
         if words[0] == 'park':
             parked[int(words[1][1:])] = words[2]
         elif words[0] in ('wake', 'late', 'throw', 'end'):
-            parked.pop(int(words[1][1:]), None)
+            last = parked.pop(int(words[1][1:]), None)
+            if line == 'throw g0 LoopExit':
+                stuck = last
+    if session.trace[-2:-1] == ['end g0 fault LoopExit'] and stuck is not None:
+        parked[0] = stuck
     return parked
 
 
