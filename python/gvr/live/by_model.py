@@ -1,22 +1,17 @@
 """Runs the text of a record by the model, as `gvr run` does: for tests, and where no program is built."""
 from typing import Callable, List
 
+from ..model import Options as ModelOptions, Refused as ModelRefused, read, run as run_model
 from .decider import Options
 from .errors import Refused
 
 
 def by_model(options: Options = Options()) -> Callable[[str], List[str]]:
     """Runs a text; raises Refused."""
-    from gvr.model import check, grammar, machine, worlds
-
     def run(text: str) -> List[str]:
-        lines: List[str] = []
         try:
-            scenario = check.check(grammar.parse(text.encode()))
-        except grammar.Refused as e:
-            raise Refused(e.line, 'reason %d: %s' % (e.reason, grammar.REASONS[e.reason]))
-        world = worlds.ScriptWorld(options.tick)
-        world.begin(1)
-        machine.Machine(scenario, options.turns, options.moves, world, lines.append, mode='fast').go()
-        return lines
+            scenario = read(text.encode())
+        except ModelRefused as e:
+            raise Refused(e.line, str(e).split(': ', 1)[1]) from None
+        return [line.text for line in run_model(scenario, ModelOptions(options.turns, options.moves, options.tick))]
     return run

@@ -58,9 +58,9 @@ def with_gifts(session: Session) -> List[str]:
     """The trace, with a line for what each statement gave."""
     lines: List[str] = []
     done = 0
-    for at, line in session.gave:
+    for at, who, text in session.gave:
         lines += session.trace[done:at]
-        lines.append(line)
+        lines.append('print g%d %s' % (who, text))
         done = at
     return lines + session.trace[done:]
 

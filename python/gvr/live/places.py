@@ -24,9 +24,12 @@ def is_ours(code: CodeType) -> bool:
 def program_frame() -> Optional[FrameType]:
     """The innermost frame that is the program's."""
     frame: Optional[FrameType] = sys._getframe(1)
-    while frame is not None and is_ours(frame.f_code):
+    while frame is not None:
+        ours = _ours.get(frame.f_code)
+        if not (is_ours(frame.f_code) if ours is None else ours):
+            return frame
         frame = frame.f_back
-    return frame
+    return None
 
 
 def program_place() -> Place:
