@@ -2,14 +2,16 @@
 import os
 import subprocess
 import sys
-from typing import Dict, List, NamedTuple, Optional, Sequence
+from typing import Callable, Dict, List, NamedTuple, Optional, Sequence, Type
 
 from . import places, waits
 from .certificate import CERTIFIED, by_program, certify, find_program, limit
-from .decider import Options
+from .decider import Decider, Options
 from .errors import LoopExit, NotCertified, Refused
 from .program import Program, own_words, run_program
+from .record import Record
 from .session import Session
+from .stepped import Driven, Stepped
 from .tasks import Outcome
 
 USAGE = """usage: ./gvr live [options] PROGRAM.py [argument..]
@@ -28,7 +30,7 @@ Where the program's first line is `# run OPTIONS`, these stand before the others
 machine, 9 if the proved program says otherwise than the run.
 """
 FLAGS = ('--trace', '--no-prints', '--no-certificate')
-NAMES = ('--record', '--picture')
+NAMES = ('--record', '--picture', '--rules')       # --rules is for ./gvr beside: rules of gvr.beside that are turned
 NUMBERS = ('--turns', '--moves', '--tick', '--seed')
 
 
@@ -64,9 +66,17 @@ def call_of(words: Sequence[str]) -> Call:
             raise Usage('%s: %s is no number' % (word, values[word]))
     numbers = {word[2:]: int(values[word]) for word in NUMBERS if word in values}
     seed = numbers.pop('seed', 0)
-    program = Program(rest[0], rest[1:], Options(**numbers), seed, '--no-prints' not in flags)
+    program = Program(rest[0], rest[1:], Options(**numbers), seed, '--no-prints' not in flags,
+                      turned(values['--rules']) if '--rules' in values else None)
     return Call(program, '--trace' in flags, values.get('--record'), values.get('--picture'),
                 '--no-certificate' not in flags)
+
+
+def turned(rules: str) -> Callable[[Record, Options], Decider]:
+    """A decider by a machine in which these rules of gvr.beside are turned."""
+    from ..beside.rules import machine_with
+    machine: Type[Driven] = type('Turned', (Driven, machine_with(frozenset(rules.split(',')))), {})
+    return lambda record, options: Stepped(record, options, machine)
 
 
 def main(words: Sequence[str]) -> int:

@@ -4,11 +4,12 @@ import importlib
 import os
 import random
 import sys
-from typing import Any, Dict, List, NamedTuple, Optional, Sequence, Tuple
+from typing import Any, Callable, Dict, List, NamedTuple, Optional, Sequence, Tuple
 
 from . import clock
-from .decider import Options
+from .decider import Decider, Options
 from .printing import Printer
+from .record import Record
 from .session import Failure, Session
 from .stepped import Stepped
 from .tasks import Outcome
@@ -61,7 +62,7 @@ class Program(NamedTuple):
     options: Options = Options()
     seed: int = 0
     prints: bool = True
-    make_decider: Any = None                         # of a record and the options; Stepped if None
+    make_decider: Optional[Callable[[Record, Options], Decider]] = None      # Stepped if None
     on_failure: Optional[Failure] = None
 
 

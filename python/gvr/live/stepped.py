@@ -41,6 +41,7 @@ class Reading:
 
     def __init__(self) -> None:
         self.read: Dict[str, Move] = {}
+        self.but_for_value: Dict[str, Move] = {}
 
     def statement(self, text: str, gives: bool) -> Move:
         """A statement. The machine is through with it before the next one is asked for: so those that differ in their
@@ -51,24 +52,29 @@ class Reading:
             value = words[at]
             if NUMBER.match(value) or HANDLE.match(value):
                 words[at] = 'none'
-                move = self.known(' '.join(words), gives)
-                if at == 2 and words[0] == 'switch':
+                move = known(self.but_for_value, ' '.join(words), gives)
+                if words[0] == 'switch':
                     move.operands = (move.operands[0], constant(value))
                 else:
                     move.operands = (constant(value), *move.operands[1:])
                 return move
-        return self.known(text, gives)
+        return known(self.read, text, gives)
 
-    def known(self, text: str, gives: bool) -> Move:
-        key = ('v <- ' + text) if gives else text
-        move = self.read.get(key)
-        if move is None:
-            if len(self.read) > MOST_READ:
-                self.read.clear()
-            move = read_statement(key)
-            move.operands = tuple([handles(e) for e in move.operands])
-            self.read[key] = move
-        return move
+    def timeout(self, milliseconds: Optional[int]) -> Move:
+        return known(self.read, 'timeout %s' % ('none' if milliseconds is None else milliseconds), False)
+
+
+def known(read: Dict[str, Move], text: str, gives: bool) -> Move:
+    """A statement that is read once."""
+    key = ('v <- ' + text) if gives else text
+    move = read.get(key)
+    if move is None:
+        if len(read) > MOST_READ:
+            read.clear()
+        move = read_statement(key)
+        move.operands = tuple([handles(e) for e in move.operands])
+        read[key] = move
+    return move
 
 
 def constant(word: str) -> Expression:
@@ -179,8 +185,7 @@ class Stepped:
         return self._answer(self.reading.statement(statement.text, statement.gives and not statement.is_let))
 
     def opened(self, body: Body, milliseconds: Optional[int]) -> Next:
-        text = 'timeout none' if milliseconds is None else 'timeout %d' % milliseconds
-        return self._answer(self.reading.known(text, False))
+        return self._answer(self.reading.timeout(milliseconds))
 
     def closed(self, body: Body) -> None:
         assert body.number is not None
