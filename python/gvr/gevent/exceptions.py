@@ -1,4 +1,6 @@
-from ..live.session import GreenletExit, InvalidSwitchError, LoopExit      # noqa: F401
+"""gevent's exceptions."""
+from ..live.errors import (GreenletExit as GreenletExit, InvalidSwitchError as InvalidSwitchError,
+                           LoopExit as LoopExit)
 
 
 class BlockingSwitchOutError(AssertionError):
@@ -6,4 +8,12 @@ class BlockingSwitchOutError(AssertionError):
 
 
 class ConcurrentObjectUseError(AssertionError):
+    pass
+
+
+class InvalidThreadUseError(RuntimeError):
+    pass
+
+
+class HubDestroyed(GreenletExit):
     pass
