@@ -11,13 +11,15 @@ class Barrier:
     """Who comes waits for the others. The last one opens the gate, and the next round has a gate of its own."""
 
     def __init__(self, parties):
-        self.parties, self.waiting, self.gate = parties, 0, Event()
+        self.parties, self.waiting = parties, 0
+        self.gate = Event()
 
     def wait(self, timeout=None):
         gate = self.gate
         self.waiting += 1
         if self.waiting == self.parties:
-            self.waiting, self.gate = 0, Event()
+            self.waiting = 0
+            self.gate = Event()
             gate.set()
         elif not gate.wait(timeout):
             self.waiting -= 1

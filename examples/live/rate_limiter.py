@@ -5,7 +5,8 @@ from gevent.lock import Semaphore
 
 class Limiter:
     def __init__(self, calls, period):
-        self.period, self.bucket = period, Semaphore(calls)
+        self.period = period
+        self.bucket = Semaphore(calls)
 
     def __enter__(self):
         self.bucket.acquire()

@@ -5,8 +5,8 @@ from gevent.event import AsyncResult
 
 class Supervisor:
     def __init__(self, most):
-        self.most, self.failures, self.gave_up = most, {}, AsyncResult()
-        self.children = {}
+        self.most, self.failures, self.children = most, {}, {}
+        self.gave_up = AsyncResult()
 
     def start(self, name, function, *args):
         child = gevent.spawn(function, *args)
