@@ -17,15 +17,17 @@ import os
 import pathlib
 import random
 import re
-import subprocess
 import sys
 import unittest
 from types import TracebackType
-from typing import Any, Callable, List, NamedTuple, Optional, Tuple, TypeVar, Union, cast
+from typing import Any, Callable, List, NamedTuple, Optional, Tuple, TypeVar, Union
 
-from .live import clock
-from .live.run import alias, decider
+from .gevent import monkey
+from .live import clock, decider, waits
+from .live.command import picture_of
+from .live.program import alias
 from .live.session import Session
+from .live.stepped import Stepped
 
 if "gevent" in sys.modules and not sys.modules["gevent"].__name__.startswith("gvr."):
     raise ImportError("gevent was imported before gvr.testing: import gvr.testing first, or run `pytest --gvr`")
@@ -39,7 +41,6 @@ Wanted = Union[str, Tuple[Part, ...]]
 __unittest = True
 LAST_LINES = 20
 PACKAGE = str(pathlib.Path(__file__).resolve().parent) + os.sep
-PICTURE = pathlib.Path(__file__).resolve().parents[2] / "tools/trace_picture"
 _last: Optional[Session] = None
 
 
@@ -100,20 +101,21 @@ def _virtual(test: Any, chosen: Options) -> Any:
 def run(main: Callable[[], Any], name: str = "run", options: Options = Options()) -> Any:
     """What `main` gives as main of a run; what it raised is raised, with a report of the run as `gvr_report`."""
     global _last
-    session = _last = Session(decider("stepped", tick=options.tick, turns=options.turns, moves=options.moves))
+    chosen = decider.Options(options.turns, options.moves, options.tick)
+    session = _last = Session(lambda record: Stepped(record, chosen), chosen)
     state = random.getstate()
     clock.install()
     random.seed(options.seed)
     try:
         kind, value = session.run(main)
     finally:
-        clock.restore()
+        monkey.restore()
         random.setstate(state)
     if kind == "value":
         return value
     error: BaseException = Stopped(value) if kind == "stop" else value
     if not is_skip(error):
-        tell(error, Report(session.moment, session.trace[-LAST_LINES:], session.who_waits(), keep(session, name)))
+        tell(error, Report(session.moment, session.trace[-LAST_LINES:], waits.who_waits(session), keep(session, name)))
     raise error.with_traceback(from_the_test(error.__traceback__))
 
 
@@ -161,9 +163,10 @@ def keep(session: Session, name: str) -> List[str]:
 
 def drawn(trace: str) -> str:
     """The picture of a trace; nothing where the tool that draws it is not there."""
-    if not PICTURE.is_file():
+    try:
+        return picture_of(trace)
+    except OSError:
         return ""
-    return subprocess.run([sys.executable, str(PICTURE)], input=trace, capture_output=True, text=True, check=False).stdout
 
 
 # What a test asks of its trace
@@ -171,7 +174,7 @@ def drawn(trace: str) -> str:
 
 def trace() -> List[str]:
     """The lines of the run that is under way, so far; else of the last one."""
-    session = cast(Optional[Session], Session.current) or _last
+    session = Session.current or _last
     if session is None:
         raise AssertionError("there is no trace: no test has run in virtual time")
     return list(session.trace)
