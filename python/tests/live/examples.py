@@ -63,7 +63,7 @@ def run(name: str, folder: str) -> Ran:
     """The program under gvr; its record and its trace stand in the folder afterwards."""
     at = pathlib.Path(folder) / name
     command = [sys.executable, "-m", "gvr.live", "--record", str(at), f"{name}.py"]
-    ended = subprocess.run(command, cwd=LIVE, env=environment(), capture_output=True, text=True, check=False)
+    ended = subprocess.run(command, cwd=LIVE, env=environment(PYTHONHASHSEED="0"), capture_output=True, text=True, check=False)
     record, trace = (at.with_suffix(it).read_text() if at.with_suffix(it).is_file() else "" for it in (".gvr", ".trace"))
     return Ran(ended.stdout, record, trace, ended.stderr, ended.returncode)
 
