@@ -27,7 +27,7 @@ def consumer(name, seconds):
         print(name, line)
 
 
-p = gevent.spawn(producer)
-c = [gevent.spawn(consumer, "fast", 0.05), gevent.spawn(consumer, "slow", 0.12)]
-gevent.joinall([p] + c)
-print(p.value, [g.value for g in c])
+producing = gevent.spawn(producer)
+consuming = [gevent.spawn(consumer, "fast", 0.05), gevent.spawn(consumer, "slow", 0.12)]
+gevent.joinall([producing, *consuming])
+print(producing.value, [g.value for g in consuming])

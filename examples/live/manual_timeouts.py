@@ -13,8 +13,8 @@ def step(name, seconds):
 
 
 def job():
-    t = Timeout(0.2)
-    t.start()
+    outer = Timeout(0.2)
+    outer.start()
     try:
         step("one", 0.1)
         inner = Timeout.start_new(0.05)
@@ -26,9 +26,9 @@ def job():
             inner.close()
         step("three", 0.2)
     except Timeout as e:
-        print("inner" if e is inner else "outer", e.seconds, t.pending)
+        print("inner" if e is inner else "outer", e.seconds, outer.pending)
     finally:
-        t.cancel()
+        outer.cancel()
     gevent.sleep(0.1)
     return "done"
 
@@ -46,11 +46,10 @@ def slow():
         raise
 
 
-j = gevent.spawn(job)
-print(j.get())
-s = gevent.spawn(slow)
-w = gevent.spawn(watchdog, s, 0.1)
+print(gevent.spawn(job).get())
+target = gevent.spawn(slow)
+watching = gevent.spawn(watchdog, target, 0.1)
 try:
-    s.get()
+    target.get()
 except Late as e:
-    print("got", e, w.ready())
+    print("got", e, watching.ready())

@@ -11,10 +11,10 @@ def slow():
     return "value"
 
 
-g = gevent.spawn(slow)
+job = gevent.spawn(slow)
 while not done:
     gevent.sleep(0)
-print(done, g.ready())
+print(done, job.ready())
 with gevent.Timeout(0.02, False):
     while True:
         gevent.sleep(0)

@@ -21,15 +21,15 @@ def scheduler():
         undo.put(name)
         try:
             print(when, name, threads.apply(slow_square, (n,)))
-        except ValueError as e:
-            print(when, name, "failed:", e)
+        except ValueError as error:
+            print(when, name, "failed:", error)
 
 
 for item in ((5, "mail", 2), (1, "boot", 3), (3, "scan", 7), (3, "log", 4), (9, "end", 0)):
     todo.put(item)
-s = gevent.spawn(scheduler)
+running = gevent.spawn(scheduler)
 gevent.sleep(0)
 todo.put((2, "urgent", 5))
-s.join()
+running.join()
 print([undo.get() for _ in range(undo.qsize())], undo.empty())
 print(threads.map(slow_square, [1, 2, 3]))

@@ -34,9 +34,9 @@ def client(name, wait):
         print(name, "took too long")
 
 
-s = gevent.spawn(server)
+serving = gevent.spawn(server)
 clients = [gevent.spawn(client, name, wait)
            for name, wait in (("pear", 1), ("plum", 1), ("fig", 0.1), ("pear", 1))]
 gevent.joinall(clients)
 requests.put(StopIteration)
-print(s.get())
+print(serving.get())

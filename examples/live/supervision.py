@@ -24,16 +24,16 @@ class Supervisor:
             self.start(name, function, *args)
 
 
-log = []
+crashes = []
 
 
 def crash(after):
     gevent.sleep(after)
-    log.append("crash")
+    crashes.append(after)
     raise OSError("disk")
 
 
-def twice(state):
+def learn(state):
     gevent.sleep(0.03)
     state.append(1)
     if len(state) < 3:
@@ -41,8 +41,8 @@ def twice(state):
     return "well"
 
 
-top = Supervisor(3)
-top.start("crasher", crash, 0.3)
-top.start("learner", twice, [])
-print(top.gave_up.get(timeout=1))
-print({k: (g.successful(), g.value) for k, g in sorted(top.children.items())}, len(log))
+supervisor = Supervisor(3)
+supervisor.start("crasher", crash, 0.3)
+supervisor.start("learner", learn, [])
+print(supervisor.gave_up.get(timeout=1))
+print({k: (g.successful(), g.value) for k, g in sorted(supervisor.children.items())}, len(crashes))

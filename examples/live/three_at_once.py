@@ -26,8 +26,8 @@ def kills(target):
     target.kill(block=False)
 
 
-w = gevent.spawn(waits)
+waiter = gevent.spawn(waits)
 gevent.spawn(releases)
-gevent.spawn(kills, w)
-w.join()
+gevent.spawn(kills, waiter)
+waiter.join()
 print("counter", lock.counter)

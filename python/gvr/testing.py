@@ -25,9 +25,11 @@ from typing import Any, Callable, List, NamedTuple, Optional, Tuple, TypeVar, Un
 from .gevent import monkey
 from .live import clock, decider, waits
 from .live.command import picture_of
+from .live.errors import GreenletExit
 from .live.program import alias
 from .live.session import Session
 from .live.stepped import Stepped
+from .live.tasks import Outcome
 
 if "gevent" in sys.modules and not sys.modules["gevent"].__name__.startswith("gvr."):
     raise ImportError("gevent was imported before gvr.testing: import gvr.testing first, or run `pytest --gvr`")
@@ -42,6 +44,7 @@ __unittest = True
 LAST_LINES = 20
 PACKAGE = str(pathlib.Path(__file__).resolve().parent) + os.sep
 _last: Optional[Session] = None
+_has_threads = False
 
 
 class Stopped(AssertionError):
@@ -103,20 +106,42 @@ def run(main: Callable[[], Any], name: str = "run", options: Options = Options()
     global _last
     chosen = decider.Options(options.turns, options.moves, options.tick)
     session = _last = Session(lambda record: Stepped(record, chosen), chosen)
+    kind, value = in_time_of(session, main, options.seed)
+    error: BaseException = Stopped(value) if kind == "stop" else value
+    if kind != "value" and not is_skip(error):
+        tell(error, Report(session.moment, session.trace[-LAST_LINES:], waits.who_waits(session), keep(session, name)))
+    let_go(session)
+    if kind == "value":
+        return value
+    raise error.with_traceback(from_the_test(error.__traceback__))
+
+
+def in_time_of(session: Session, main: Callable[[], Any], seed: int) -> Outcome:
+    """How main ends, with the clock of the session; clock, random and threads are as before afterwards. Where a module
+    called `patch_all` when it was imported, threads are the façade's in each run."""
+    global _has_threads
     state = random.getstate()
+    _has_threads = _has_threads or monkey.is_module_patched("threading")
+    if _has_threads:
+        monkey.patch_thread()
     clock.install()
-    random.seed(options.seed)
+    random.seed(seed)
     try:
-        kind, value = session.run(main)
+        return session.run(main)
     finally:
         monkey.restore()
         random.setstate(state)
-    if kind == "value":
-        return value
-    error: BaseException = Stopped(value) if kind == "stop" else value
-    if not is_skip(error):
-        tell(error, Report(session.moment, session.trace[-LAST_LINES:], waits.who_waits(session), keep(session, name)))
-    raise error.with_traceback(from_the_test(error.__traceback__))
+
+
+def let_go(session: Session) -> None:
+    """Ends the greenlets that still wait when a run is over, so that nothing of them runs in a later test."""
+    Session.current = session
+    try:
+        for _, task in sorted(session.tasks.items()):
+            if task.real is not None and not task.real.dead:
+                task.real.throw(GreenletExit)
+    finally:
+        Session.current = None
 
 
 def from_the_test(frames: Optional[TracebackType]) -> Optional[TracebackType]:

@@ -6,6 +6,7 @@ import random
 import subprocess
 import sys
 import tempfile
+import textwrap
 import time
 import traceback
 import unittest
@@ -22,6 +23,14 @@ if HAS_GREENLET:
     from gevent.queue import Queue
 
     shared_lock = Semaphore(1)
+
+
+def python(code: str) -> str:
+    """What this code writes in a process of its own."""
+    more = {**os.environ, "PYTHONPATH": str(PYTHON)}
+    command = [sys.executable, "-B", "-c", textwrap.dedent(code)]
+    ended = subprocess.run(command, env=more, capture_output=True, text=True, check=False)
+    return ended.stdout + ended.stderr
 
 
 def third_call_waits() -> List[Any]:
@@ -85,6 +94,44 @@ class Running(unittest.TestCase):
         with self.assertRaises(LookupError) as caught:
             testing.run(fails)
         self.assertIs(caught.exception, error)
+
+    def test_who_still_waits_ends_with_the_run(self) -> None:
+        told: List[str] = []
+
+        def waits() -> None:
+            try:
+                Semaphore(0).acquire()
+            finally:
+                told.append("finally")
+                gevent.sleep(1)
+                told.append("not reached")
+
+        def leaves() -> None:
+            gevent.spawn(waits)
+            gevent.sleep(1)
+
+        testing.run(leaves)
+        self.assertEqual(told, ["finally"])
+        testing.run(leaves)
+        self.assertEqual(told, ["finally", "finally"])
+        self.assertEqual(sum(line.startswith("start") for line in testing.trace()), 2)
+
+    def test_threads_of_a_module_that_patches_are_greenlets_in_each_run(self) -> None:
+        code = """
+            from gvr import testing
+            from gevent import monkey
+            monkey.patch_all()
+            import threading, time
+
+            def works():
+                thread = threading.Thread(target=time.sleep, args=(60,))
+                thread.start()
+                thread.join()
+                return time.monotonic()
+
+            print(testing.run(works), testing.run(works), type(threading.Lock()).__module__)
+        """
+        self.assertEqual(python(code), "60.0 60.0 _thread\n")
 
     def test_an_object_that_a_module_makes_is_new_in_each_run(self) -> None:
         def takes() -> bool:
@@ -280,10 +327,12 @@ class Decorating(unittest.TestCase):
         self.assertTrue(AClass("test_time").run().wasSuccessful())  # type: ignore[union-attr]
 
     def test_gevent_has_to_come_later(self) -> None:
-        code = "import sys, types; sys.modules['gevent'] = types.ModuleType('gevent'); import gvr.testing"
-        more = {**os.environ, "PYTHONPATH": str(PYTHON)}
-        ended = subprocess.run([sys.executable, "-c", code], env=more, capture_output=True, text=True, check=False)
-        self.assertIn("gevent was imported before gvr.testing", ended.stderr)
+        code = """
+            import sys, types
+            sys.modules["gevent"] = types.ModuleType("gevent")
+            import gvr.testing
+        """
+        self.assertIn("gevent was imported before gvr.testing", python(code))
 
 
 if __name__ == "__main__":
