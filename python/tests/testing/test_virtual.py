@@ -151,8 +151,9 @@ class Telling(unittest.TestCase):
         error = self.failure(waits_for_nobody)
         self.assertEqual(type(error).__name__, "LoopExit")
         waiting = error.gvr_report.waiting
-        self.assertRegex(waiting[0], r"^g1 \w+ waits: acquire bucket\b")
-        self.assertEqual([line.strip() for line in waiting[1:]], ["bucket was not released"])
+        self.assertRegex("\n".join(waiting), r"(?m)^g0 main waits: join g1\b.* in waits_for_nobody$")
+        self.assertRegex("\n".join(waiting), r"(?m)^g1 \w+ waits: acquire bucket\b")
+        self.assertIn("bucket was not released", [line.strip() for line in waiting])
 
     def test_the_line_of_the_test_is_told(self) -> None:
         def worker() -> None:
