@@ -1,6 +1,9 @@
 """That the programs which the pages show, and what they say, are those of examples/live."""
 import importlib.util
+import pathlib
 import re
+import subprocess
+import sys
 import tempfile
 import unittest
 from typing import Iterator, Tuple
@@ -38,6 +41,21 @@ class Pages(unittest.TestCase):
             with self.subTest(page=page, name=name), tempfile.TemporaryDirectory() as folder:
                 said = examples.run(name, folder).said
                 self.assertIn(text, VERDICT.sub("", said))
+
+    @unittest.skipUnless(HAS_GREENLET, "needs greenlet, Debian's python3-greenlet")
+    def test_the_test_of_live_fails_as_it_is_told(self) -> None:
+        page = (examples.TOP / "docs/LIVE.md").read_text()
+        code, told = (re.findall(rf"^```{kind} test_limits\n((?:.*\n)*?)```$", page, re.M) for kind in ("python", "says"))
+        with tempfile.TemporaryDirectory() as folder:
+            (pathlib.Path(folder) / "test_limits.py").write_text(code[0])
+            command = [sys.executable, "-m", "unittest", "test_limits"]
+            ended = subprocess.run(command, cwd=folder, env=examples.environment(), capture_output=True, text=True, check=False)
+        self.assertIn("AssertionError: Lists differ: [0.0, 0.0, None] != [0, 0, 60]", ended.stderr)
+        at = 0
+        for line in told[0].splitlines():
+            if line.strip() != "..":
+                self.assertIn(line + "\n", ended.stderr[at:])
+                at = ended.stderr.index(line + "\n", at)
 
 
 if __name__ == "__main__":
