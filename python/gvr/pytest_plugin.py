@@ -14,7 +14,7 @@ A test that fails has a section with the last lines of its trace and with who wa
 import functools
 import inspect
 import os
-from typing import Any, Callable, Generator, Optional
+from typing import Any, Callable, Generator
 
 import pytest
 
@@ -34,17 +34,21 @@ def pytest_configure(config: Any) -> None:
 
 
 @pytest.hookimpl(tryfirst=True)
-def pytest_pyfunc_call(pyfuncitem: Any) -> Optional[bool]:
-    """The call of a test, as a run where it is marked."""
-    marker = pyfuncitem.get_closest_marker("gvr")
-    if marker is None and not pyfuncitem.config.getoption("gvr") or inspect.iscoroutinefunction(pyfuncitem.obj):
-        return None
+def pytest_runtest_call(item: Any) -> None:
+    """What is called of a test is a run, where all tests are or this one is marked."""
+    marker, test = item.get_closest_marker("gvr"), getattr(item, "obj", None)
+    is_run = marker is not None or item.config.getoption("gvr")
+    if not is_run or not callable(test) or inspect.iscoroutinefunction(test):
+        return
     from gvr import testing
 
-    named = {name: pyfuncitem.funcargs[name] for name in pyfuncitem._fixtureinfo.argnames}
     options = testing.Options(**(marker.kwargs if marker is not None else {}))
-    testing.run(functools.partial(pyfuncitem.obj, **named), file_name(pyfuncitem), options)
-    return True
+
+    @functools.wraps(test)
+    def called(*arguments: Any, **named: Any) -> Any:
+        return testing.run(functools.partial(test, *arguments, **named), file_name(item), options)
+
+    item.obj = called
 
 
 @pytest.hookimpl(hookwrapper=True)

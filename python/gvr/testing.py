@@ -102,8 +102,11 @@ def _virtual(test: Any, chosen: Options) -> Any:
 
 
 def run(main: Callable[[], Any], name: str = "run", options: Options = Options()) -> Any:
-    """What `main` gives as main of a run; what it raised is raised, with a report of the run as `gvr_report`."""
+    """What `main` gives as main of a run; what it raised is raised, with a report of the run as `gvr_report`. Within a run
+    it is called as a part of that."""
     global _last
+    if Session.current is not None:
+        return main()
     chosen = decider.Options(options.turns, options.moves, options.tick)
     session = _last = Session(lambda record: Stepped(record, chosen), chosen)
     kind, value = in_time_of(session, main, options.seed)

@@ -129,6 +129,36 @@ class Plugin(unittest.TestCase):
         self.assertEqual(status, 0, told)
         self.assertIn("3 passed, 1 skipped, 1 xfailed", told)
 
+    def test_unittest_and_tests_that_are_virtual_already(self) -> None:
+        text = """
+            import time
+            import unittest
+            import gvr.testing
+            import gevent
+            from gevent.queue import Queue
+
+            class Queues(unittest.TestCase):
+                def setUp(self):
+                    self.queue = Queue()
+
+                def test_put(self):
+                    gevent.spawn_later(60, self.queue.put, 7)
+                    self.assertEqual(self.queue.get(timeout=61), 7)
+
+                def test_waits(self):
+                    self.queue.get(timeout=61)
+
+            @gvr.testing.virtual
+            def test_virtual():
+                gevent.sleep(60)
+                assert time.monotonic() == 60
+        """
+        status, told = self.pytest(text, "--gvr", "--gvr-keep", "FOLDER/kept")
+        self.assertEqual(status, 1, told)
+        self.assertIn("1 failed, 2 passed", told)
+        self.assertIn("moment 61000; the last lines of the trace:", told)
+        self.assertEqual(sorted(self.kept)[0], "test_user.Queues.test_waits.gvr")
+
     def test_the_fixture_runs_what_it_is_given(self) -> None:
         text = """
             import gvr.testing

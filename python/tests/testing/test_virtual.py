@@ -84,6 +84,13 @@ class Running(unittest.TestCase):
         before = time.time()
         self.assertLess(abs(time.time() - before), 60)
 
+    def test_a_run_within_a_run_is_a_part_of_it(self) -> None:
+        def outer() -> List[float]:
+            gevent.sleep(1)
+            return [time.monotonic(), a_function(), time.monotonic()]
+
+        self.assertEqual(testing.run(outer), [1, 61, 61])
+
     def test_what_is_raised_is_the_same_error(self) -> None:
         error = LookupError("none")
 
