@@ -1,0 +1,168 @@
+"""The programs of examples/live, and what stands beside each of them: its output, its record and its trace.
+
+tools/check_live [NAME..]             runs them once more, and compares
+tools/check_live --write [NAME..]     writes record and trace beside each (the outputs are written by hand)
+tools/check_live --gevent N [NAME..]  runs each N times under gevent itself, with timers four times as long
+"""
+import os
+import pathlib
+import re
+import subprocess
+import sys
+import tempfile
+from concurrent.futures import ThreadPoolExecutor
+from typing import Callable, List, NamedTuple, Tuple
+
+TOP = pathlib.Path(__file__).resolve().parents[3]
+LIVE = TOP / "examples/live"
+PATTERNS = TOP / "examples/patterns"
+PROGRAM = pathlib.Path(os.environ.get("GVR") or TOP / "crates/gvr/out/gvr")
+LANES = max(1, len(os.sched_getaffinity(0)))
+CERTIFIED = "certified by the proved program"
+
+
+class Ran(NamedTuple):
+    """What a program of examples/live wrote, and what came of it."""
+
+    output: str
+    record: str
+    trace: str
+    said: str
+    status: int
+
+
+class Answer(NamedTuple):
+    """What `gvr` answers: its status, its output, its lines on standard error."""
+
+    status: int
+    output: str
+    said: str
+
+
+def names(folder: pathlib.Path = LIVE, kind: str = "py") -> List[str]:
+    return sorted(file.stem for file in folder.glob(f"*.{kind}"))
+
+
+def question(text: str) -> str:
+    """The question of a program or a scenario: its first comment that has no words to run it with, up to the answer."""
+    asked: List[str] = []
+    for line in text.splitlines():
+        if line.startswith("# run "):
+            continue
+        if not line.startswith("# ") or asked and asked[-1].endswith("?"):
+            break
+        asked.append(line[2:])
+    return " ".join(asked)
+
+
+def environment(**more: str) -> "dict[str, str]":
+    return {**os.environ, "PYTHONPATH": str(TOP / "python"), "PYTHONDONTWRITEBYTECODE": "1", **more}
+
+
+def run(name: str, folder: str) -> Ran:
+    """The program under gvr; its record and its trace stand in the folder afterwards."""
+    at = pathlib.Path(folder) / name
+    command = [sys.executable, "-m", "gvr.live", "--record", str(at), f"{name}.py"]
+    ended = subprocess.run(command, cwd=LIVE, env=environment(PYTHONHASHSEED="0"), capture_output=True, text=True, check=False)
+    record, trace = (at.with_suffix(it).read_text() if at.with_suffix(it).is_file() else "" for it in (".gvr", ".trace"))
+    return Ran(ended.stdout, record, trace, ended.stderr, ended.returncode)
+
+
+def run_all(chosen: List[str]) -> "dict[str, Ran]":
+    """What each of these programs wrote."""
+    with tempfile.TemporaryDirectory() as folder, ThreadPoolExecutor(LANES) as lanes:
+        return dict(zip(chosen, lanes.map(lambda name: run(name, folder), chosen)))
+
+
+def answer(words: List[str], given: str) -> Answer:
+    """What the built program answers, or the model where there is no built program."""
+    if PROGRAM.is_file():
+        ended = subprocess.run([PROGRAM, *words], input=given, capture_output=True, text=True, check=False)
+        return Answer(ended.returncode, ended.stdout, ended.stderr)
+    sys.path[:0] = [str(TOP / "python")]
+    from gvr import model
+
+    told = model.answer(words, given.encode())
+    return Answer(told.status, told.out.decode(), told.complaint)
+
+
+def replay(record: str) -> Answer:
+    """The run of a record, with the words that its first line has."""
+    words = re.match(r"# (run .*)\n", record)
+    return answer(words[1].split() if words else ["run"], record)
+
+
+def verify(record: str, trace: str) -> Answer:
+    """What `verify` says of a record and its trace. It has no --tick: a trace that ticked is another's."""
+    return answer(["verify"], f"{record}====\n{trace}")
+
+
+def without_moves(trace: str) -> str:
+    """The trace without its count of moves. The record has some statements more than the program, so the two agree on it
+    only after the record was run."""
+    return re.sub(r" moves \d+\n\Z", "\n", trace)
+
+
+def differences(name: str, ran: Ran) -> List[str]:
+    """What differs between a run and what stands beside the program."""
+    told = []
+    for kind, came in (("out", ran.output), ("gvr", ran.record), ("trace", without_moves(ran.trace))):
+        file = LIVE / f"{name}.{kind}"
+        wanted = file.read_text() if file.is_file() else None
+        if came != (without_moves(wanted) if wanted and kind == "trace" else wanted):
+            told.append(f"examples/live/{name}.{kind} is not what the run has")
+    if PROGRAM.is_file() and CERTIFIED not in ran.said:
+        told.append(f"examples/live/{name}.py: the run is not certified: {ran.said.strip()[-300:]}")
+    return told
+
+
+def under_gevent(name: str, scale: int = 4) -> str:
+    """What the program writes under gevent itself, whose timers take so many times as long."""
+    more = environment(GEVENT_LOOP="scaled.Loop", GVR_SCALE=str(scale))
+    more["PYTHONPATH"] = str(pathlib.Path(__file__).resolve().parent)
+    ended = subprocess.run([sys.executable, f"{name}.py"], cwd=LIVE, env=more, capture_output=True, text=True, timeout=600, check=False)
+    return ended.stdout
+
+
+def compare_with_gevent(chosen: List[str], runs: int) -> List[str]:
+    """A line for each program: in how many runs of gevent it wrote what stands beside it."""
+    asked = [(name, number) for name in chosen for number in range(runs)]
+    with ThreadPoolExecutor(2) as lanes:
+        came = list(lanes.map(lambda it: (it[0], under_gevent(it[0])), asked))
+    wanted = {name: (LIVE / f"{name}.out").read_text() for name in chosen}
+    same = {name: sum(output == wanted[name] for it, output in came if it == name) for name in chosen}
+    return [f"{name}: the same in {same[name]} of {runs} runs" for name in chosen]
+
+
+def write(chosen: List[str]) -> None:
+    for name, ran in run_all(chosen).items():
+        (LIVE / f"{name}.gvr").write_text(ran.record)
+        (LIVE / f"{name}.trace").write_text(replay(ran.record).output)
+
+
+def options(words: List[str]) -> Tuple[List[str], List[str]]:
+    """The words that begin with two dashes, with the number behind --gevent, and the others."""
+    if words[:1] == ["--gevent"]:
+        return words[:2], words[2:]
+    return [it for it in words if it.startswith("--")], [it for it in words if not it.startswith("--")]
+
+
+def main() -> int:
+    told, chosen = options(sys.argv[1:])
+    chosen = chosen or names()
+    say: Callable[[str], None] = print
+    if told[:1] == ["--gevent"]:
+        for line in compare_with_gevent(chosen, int(told[1])):
+            say(line)
+        return 0
+    if told == ["--write"]:
+        write(chosen)
+    wrong = [line for name, ran in run_all(chosen).items() for line in differences(name, ran)]
+    for line in wrong:
+        say(line)
+    say(f"check_live: {len(chosen)} programs: {max(0, len(chosen) - len(wrong))} passed, {len(wrong)} failed")
+    return int(bool(wrong))
+
+
+if __name__ == "__main__":
+    sys.exit(main())
