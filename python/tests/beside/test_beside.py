@@ -1,16 +1,13 @@
 """The kit: its parts, every case beside gevent and asyncio, and what the minimiser made."""
 import glob
-import json
 import os
 import unittest
 
 import gvr.beside
 from gvr.beside import generate
-from gvr.beside.events import Difference, from_trace, outcome, until_main_ends, views, void
-from gvr.beside.minimise import smallest
+from gvr.beside.events import Difference, void
 from gvr.beside.rules import ASYNCIO, GEVENT, RULES, explain
-from gvr.beside.sides import Model, adapter, checked, gevent_adapter, interpreter
-from gvr.beside.tree import tree
+from gvr.beside.sides import Gvr, adapter, checked, interpreter
 
 CASES = os.path.join(os.path.dirname(gvr.beside.__file__), 'cases')
 # classes without a rule: the comparison can't go on beyond them yet
@@ -22,44 +19,15 @@ def read(path):
         return f.read()
 
 
-class TheKit(unittest.TestCase):
-    def test_tree(self):
-        t = tree('sem s 1\ndef main\n  x <- acquire s within 5\n  print + x 1\nend\n')
-        self.assertEqual(t['objects'], [{'kind': 'sem', 'name': 's', 'n': 1}])
-        first, second = t['functions'][0]['body']
-        self.assertEqual(first, {'do': 'acquire', 'line': 3, 'into': 'x', 'obj': 's', 'wait': ['within', 5]})
-        self.assertEqual(second['e'], ['+', ['name', 'x'], ['int', 1]])
-        json.dumps(t)
-
-    def test_events_of_a_trace(self):
-        run = from_trace(['start g0 main', 'park g0 kill g1', 'throw g1 GreenletExit', 'end g1 value GreenletExit',
-                          'turn 1 nothing 0', 'wake g0', 'print g0 2', 'end g0 value none',
-                          'stop value none turns 2 moves 3'])
-        self.assertEqual([e['ev'] for e in run], ['start', 'killed', 'go', 'print', 'end', 'stop'])
-        self.assertEqual(views(run)['b'], {'g1': 'value GreenletExit', 'g0': 'value none'})
-        self.assertEqual(outcome(run), 'g0 2; end')
-
+class Rules(unittest.TestCase):
     def test_no_rules_are_the_machine(self):
         """RuledMachine without a rule that matters is the model's machine, line by line."""
         for seed in range(60):
             for profile in ('short', 'wide'):
                 text = generate.text(seed, profile, zero=seed % 2 == 0)
                 if text is not None:
-                    m = Model()
+                    m = Gvr()
                     self.assertEqual(m.trace(text), m.trace(text, rules=('none',)), text)
-
-    def test_minimise(self):
-        text = 'sem s 1\ndef w\n  print 1\nend\ndef main\n  try\n    print 2\n    print 3\n  finally\n    spawn w\n  end\nend\n'
-        got = smallest(text, lambda t: 'print 3' in t)
-        self.assertEqual(got, 'def main\n  print 3\nend\n')
-
-    def test_explain_is_the_smallest_set(self):
-        self.assertEqual(explain(lambda rules: {'zero_last', 'overtake'} <= rules), ('overtake', 'zero_last'))
-        self.assertIsNone(explain(lambda rules: False))
-
-    def test_after_main_nothing_is_compared(self):
-        run = [{'ev': 'end', 'g': 0, 'out': 'value none'}, {'ev': 'print', 'g': 1, 'v': '1'}, {'ev': 'stop', 'out': 'value none'}]
-        self.assertEqual([e['ev'] for e in until_main_ends(run)], ['end', 'stop'])
 
     def test_every_rule_has_a_case(self):
         names = {os.path.basename(p)[:-4] for folder in (os.path.join(CASES, 'gevent'), os.path.join(CASES, 'asyncio'))
@@ -72,7 +40,7 @@ class Beside:
     folder = found = rules = None
 
     def test_cases(self):
-        model = Model()
+        model = Gvr()
         for path in sorted(glob.glob(os.path.join(self.folder, '*.gvr'))):
             name, text = os.path.basename(path)[:-4], read(path)
             with self.subTest(name):
@@ -91,7 +59,7 @@ class Beside:
 
     def test_found(self):
         """What the minimiser made differs, and does not under the rules of its name."""
-        model = Model()
+        model = Gvr()
         for path in sorted(glob.glob(os.path.join(self.found, '*.gvr'))):
             name, text = os.path.basename(path)[:-4], read(path)
             with self.subTest(name):
@@ -105,7 +73,7 @@ class BesideGevent(Beside, unittest.TestCase):
     folder, found, rules = os.path.join(CASES, 'gevent'), os.path.join(CASES, 'found', 'gevent'), GEVENT
 
     def setUp(self):
-        self.adapter = gevent_adapter('--ordered-groups')
+        self.adapter = adapter('gevent', '--ordered-groups')
         self.addCleanup(self.adapter.close)
 
     def test_the_virtual_loop_is_a_function_of_the_scenario(self):
@@ -121,7 +89,7 @@ class BesideGevent(Beside, unittest.TestCase):
         text = ('event e\nqueue q fifo 1\ndef a\n  wait e\n  print 1\n  qput q 5\n  qput q 6 within 20\n  print 2\nend\n'
                 'def b\n  sleep 10\n  set e\n  sleep 0\n  x <- qget q\n  print x\nend\n'
                 'def main\n  g <- spawn a\n  h <- spawn b\n  join g\n  kill h\n  timeout 15\n    sleep 50\n  end\nend\n')
-        real = gevent_adapter('--loop', 'libev', '--ms', '0.01')
+        real = adapter('gevent', '--loop', 'libev', '--ms', '0.01')
         self.addCleanup(real.close)
 
         def events(adapter):

@@ -570,3 +570,9 @@ def explain(agrees, rules=GEVENT, most=3):
         if agrees(frozenset(need - {r})):
             need.discard(r)
     return tuple(r for r in rules if r in need)
+
+
+def machine_with(rules):
+    def make(*args):
+        return RuledMachine(*args, rules=rules)
+    return make
