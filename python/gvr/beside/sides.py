@@ -9,10 +9,7 @@ import tempfile
 import threading
 from typing import IO, Any, Dict, FrozenSet, Iterable, List, NamedTuple, Optional, Sequence, Tuple
 
-from ..model.check import check
-from ..model.grammar import Refused, parse
-from ..model.machine import Machine
-from ..model.worlds import ScriptWorld
+from ..model import IndexedMachine, Line, Refused, Scenario, ScriptWorld, read
 from .events import Event, Run, from_trace
 from .rules import machine_with
 from .tree import tree_of
@@ -27,11 +24,11 @@ class Trouble(Exception):
     """What the command tells on standard error before it ends."""
 
 
-def checked(text: str) -> Any:
+def checked(text: str) -> Optional[Scenario]:
     """The checked scenario, or None if it is refused."""
     try:
-        return check(parse(text.encode('ascii')))
-    except (Refused, UnicodeEncodeError):
+        return read(text.encode())
+    except Refused:
         return None
 
 
@@ -66,30 +63,27 @@ class Gvr:
     def __init__(self, limits: Limits = Limits(), program: Optional[str] = None) -> None:
         self.limits, self.program = limits, program
 
-    def trace(self, text: str, scenario: Any = None, rules: FrozenSet[str] = NO_RULES) -> List[str]:
+    def trace(self, text: str, scenario: Optional[Scenario] = None, rules: FrozenSet[str] = NO_RULES) -> List[Line]:
         """The trace's lines."""
         limits = limits_of(text, self.limits)
         if self.program and not rules:
             return self.by_program(text, limits)
-        lines: List[str] = []
+        lines: List[Line] = []
         world = ScriptWorld(limits.tick)
         world.begin(1)
-        arguments = (scenario or check(parse(text.encode('ascii'))), limits.turns, limits.moves, world, lines.append)
-        if rules:
-            machine_with(rules)(*arguments).go()
-        else:
-            Machine(*arguments, mode='fast').go()
+        machine = machine_with(rules) if rules else IndexedMachine
+        machine(scenario or read(text.encode()), limits.turns, limits.moves, world, lines.append).go()
         return lines
 
-    def by_program(self, text: str, limits: Limits) -> List[str]:
+    def by_program(self, text: str, limits: Limits) -> List[Line]:
         command = [str(self.program), 'run', *limits.words()]
         try:
             ended = subprocess.run(command, input=text, text=True, stdout=subprocess.PIPE, stderr=subprocess.DEVNULL)
         except OSError as error:
             raise Trouble('the program %s does not start: %s' % (self.program, error)) from None
-        return ended.stdout.splitlines()
+        return [Line(line) for line in ended.stdout.splitlines()]
 
-    def run(self, text: str, scenario: Any = None, rules: FrozenSet[str] = NO_RULES) -> Run:
+    def run(self, text: str, scenario: Optional[Scenario] = None, rules: FrozenSet[str] = NO_RULES) -> Run:
         """The run as events."""
         return from_trace(self.trace(text, scenario, rules))
 
@@ -144,10 +138,10 @@ class Adapter:
             raise Trouble('the adapter does not start: %s' % error) from None
         return self.process
 
-    def run(self, text: str, scenario: Any = None) -> Run:
+    def run(self, text: str, scenario: Optional[Scenario] = None) -> Run:
         """The run as events; the last is `died` if the adapter ended under way."""
         process = self.process or self.start()
-        tree = json.dumps(tree_of(scenario or check(parse(text.encode('ascii')))), separators=(',', ':'))
+        tree = json.dumps(tree_of(scenario or read(text.encode())), separators=(',', ':'))
         timer = threading.Timer(self.patience, process.kill)
         timer.start()
         try:
@@ -225,7 +219,7 @@ class Sides(NamedTuple):
     gvr: Gvr
     intended: FrozenSet[str] = NO_RULES
 
-    def model(self, text: str, scenario: Any, rules: Iterable[str] = ()) -> Run:
+    def model(self, text: str, scenario: Optional[Scenario], rules: Iterable[str] = ()) -> Run:
         return self.gvr.run(text, scenario, self.intended | frozenset(rules))
 
 

@@ -6,7 +6,7 @@ import unittest
 import gvr.beside
 from gvr.beside import generate
 from gvr.beside.events import Difference, void
-from gvr.beside.rules import ASYNCIO, GEVENT, RULES, explain
+from gvr.beside.rules import explain, names, sets
 from gvr.beside.sides import Gvr, adapter, checked, interpreter
 
 CASES = os.path.join(os.path.dirname(gvr.beside.__file__), 'cases')
@@ -27,12 +27,12 @@ class Rules(unittest.TestCase):
                 text = generate.text(seed, profile, zero=seed % 2 == 0)
                 if text is not None:
                     m = Gvr()
-                    self.assertEqual(m.trace(text), m.trace(text, rules=('none',)), text)
+                    self.assertEqual(m.trace(text), m.trace(text, rules=frozenset({'none'})), text)
 
     def test_every_rule_has_a_case(self):
-        names = {os.path.basename(p)[:-4] for folder in (os.path.join(CASES, 'gevent'), os.path.join(CASES, 'asyncio'))
+        found = {os.path.basename(p)[:-4] for folder in (os.path.join(CASES, 'gevent'), os.path.join(CASES, 'asyncio'))
                  for p in glob.glob(os.path.join(folder, '*.gvr'))}
-        self.assertEqual(names, set(RULES) | NO_RULE)
+        self.assertEqual(found, set(names()) | NO_RULE)
 
 
 class Beside:
@@ -70,7 +70,7 @@ class Beside:
 
 @unittest.skipUnless(interpreter('gevent'), 'no gevent')
 class BesideGevent(Beside, unittest.TestCase):
-    folder, found, rules = os.path.join(CASES, 'gevent'), os.path.join(CASES, 'found', 'gevent'), GEVENT
+    folder, found, rules = os.path.join(CASES, 'gevent'), os.path.join(CASES, 'found', 'gevent'), sets()['gevent']
 
     def setUp(self):
         self.adapter = adapter('gevent', '--ordered-groups')
@@ -98,7 +98,7 @@ class BesideGevent(Beside, unittest.TestCase):
 
 
 class BesideAsyncio(Beside, unittest.TestCase):
-    folder, found, rules = os.path.join(CASES, 'asyncio'), os.path.join(CASES, 'found', 'asyncio'), ASYNCIO
+    folder, found, rules = os.path.join(CASES, 'asyncio'), os.path.join(CASES, 'found', 'asyncio'), sets()['asyncio']
 
     def setUp(self):
         self.adapter = adapter('asyncio')

@@ -7,17 +7,18 @@ import subprocess
 import sys
 import tempfile
 import unittest
-from typing import Tuple
+from typing import List, Tuple
 
 import gvr.beside
 from gvr.beside import generate
 from gvr.beside.as_python import NotWritten, program
 from gvr.beside.command import main
-from gvr.beside.events import Difference, from_trace, outcome, until_main_ends, views, void
+from gvr.beside.events import Difference, Run, from_trace, outcome, until_main_ends, views, void
 from gvr.beside.minimise import smallest
 from gvr.beside.rules import explain
 from gvr.beside.sides import Adapter, Gvr, Limits, Trouble, limits_of
 from gvr.beside.tree import tree
+from gvr.model import Line
 
 CASES = os.path.join(os.path.dirname(gvr.beside.__file__), 'cases')
 HELLO = 'def main\n  print 1\nend\n'
@@ -28,6 +29,10 @@ print('{"ev":"stop","out":"value none"}\\n{"ev":"over"}', flush=True)
 sys.stdin.readline()
 sys.exit('out of luck')
 '''
+
+
+def traced(lines: List[str]) -> Run:
+    return from_trace([Line(line) for line in lines])
 
 
 def command(*words: str) -> Tuple[int, str, str]:
@@ -57,7 +62,7 @@ class Parts(unittest.TestCase):
         self.assertNotIn('ms', timed)
 
     def test_events_of_a_trace(self) -> None:
-        run = from_trace(['start g0 main', 'park g0 kill g1', 'throw g1 GreenletExit', 'end g1 value GreenletExit',
+        run = traced(['start g0 main', 'park g0 kill g1', 'throw g1 GreenletExit', 'end g1 value GreenletExit',
                           'turn 1 nothing 0', 'wake g0', 'print g0 2', 'end g0 value none',
                           'stop value none turns 2 moves 3'])
         self.assertEqual([e['ev'] for e in run], ['start', 'killed', 'go', 'print', 'end', 'stop'])
@@ -65,7 +70,7 @@ class Parts(unittest.TestCase):
         self.assertEqual(outcome(run), 'g0 2; end')
 
     def test_a_map_that_waits_on_goes_once(self) -> None:
-        run = from_trace(['park g0 map p', 'wake g0', 'park g0 map p', 'wake g0', 'stop value none turns 1 moves 1'])
+        run = traced(['park g0 map p', 'wake g0', 'park g0 map p', 'wake g0', 'stop value none turns 1 moves 1'])
         self.assertEqual([e['ev'] for e in run], ['go', 'stop'])
 
     def test_the_first_difference(self) -> None:
@@ -82,7 +87,7 @@ class Parts(unittest.TestCase):
         self.assertEqual([e['ev'] for e in until_main_ends(run)], ['end', 'stop'])
 
     def test_a_hang_is_the_models_loop_exit(self) -> None:
-        model = from_trace(['start g0 main', 'park g0 wait e', 'block none', 'throw g0 LoopExit', 'end g0 fault LoopExit',
+        model = traced(['start g0 main', 'park g0 wait e', 'block none', 'throw g0 LoopExit', 'end g0 fault LoopExit',
                             'stop fault LoopExit turns 1 moves 1'])
         self.assertFalse(Difference([{'ev': 'start', 'g': 0, 'f': 'main'}, {'ev': 'stop', 'out': 'hang'}], model))
 
@@ -114,7 +119,7 @@ class Parts(unittest.TestCase):
     def test_limits_of_the_first_line(self) -> None:
         self.assertEqual(limits_of('# run --turns 2 --tick 1\n' + HELLO), Limits(turns=2, tick=1))
         self.assertEqual(limits_of(HELLO), Limits())
-        self.assertEqual(Gvr().trace('# run --turns 1\ndef main\n  sleep 0\n  sleep 0\nend\n')[-1].split(' ')[1], 'no-turns')
+        self.assertEqual(Gvr().trace('# run --turns 1\ndef main\n  sleep 0\n  sleep 0\nend\n')[-1].text.split(' ')[1], 'no-turns')
 
 
 class AsPython(unittest.TestCase):

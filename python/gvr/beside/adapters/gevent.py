@@ -25,7 +25,7 @@ from gevent.queue import Channel, JoinableQueue, LifoQueue, PriorityQueue, Queue
 from gevent.threadpool import ThreadPool
 
 from . import virtual_loop
-from .protocol import (G, J, PLAIN, Budget, Err, Evaluator, Fault, InvalidSwitch, Log, Unsupported, catches, eval_job,
+from .protocol import (G, J, PLAIN, Budget, Err, Evaluator, Fault, InvalidSwitch, Log, Unsupported, catches, job_outcome,
                      kind_of, serve, truth, value_text)
 
 EXC = dict(PLAIN, GreenletExit=GreenletExit, LoopExit=LoopExit)
@@ -590,7 +590,7 @@ class Run:
                 latch.wait()
             else:
                 time.sleep(takes)
-            kind, v = eval_job(st['job'], n)
+            kind, v = job_outcome(st['job'], n)
             if kind == 'fault':
                 raise self.to_exc(v)
             return v
