@@ -4,7 +4,7 @@ from typing import Any, Dict, List, Optional, Set
 from ...model.items import NEWCOMER, Effect, Ended, Greenlet, Item, Pending, Thing, Wait
 from ...model.tree import Statement
 from ...model.values import GREENLET_EXIT, VALUE_ERROR, Fault, G, Handle, Outcome, Raised, Value, fault_text, timeout_fault
-from .rule import Rule
+from .rule import Rule, Ruled
 
 TASK_WAITS = ('join', 'get', 'kill', 'killall', 'joinall', 'rget', 'rwait')
 
@@ -49,18 +49,19 @@ class TimeoutIsCancel(Cancels):
             super().deliver(item)
 
     def unwind(self, g: Greenlet, pending: Pending) -> Optional[Ended]:
-        while g.stack:
-            if g.stack[-1].kind == 'timeout':
-                frame = g.stack.pop()
+        stack = g.stack                                       # who runs it keeps this list
+        while stack:
+            if stack[-1].kind == 'timeout':
+                frame = stack.pop()
                 self.leave_timeout(g, frame.n)
                 if self.is_its_cancel(g, frame.n, pending):
                     if frame.statement is not None and frame.statement.option == 'silent':
                         return None
                     pending = Pending('fault', timeout_fault(frame.n))
                 continue
-            lower, g.stack = g.stack[:-1], g.stack[-1:]
+            lower, g.stack = stack[:-1], stack[-1:]
             ended = super().unwind(g, pending)
-            g.stack = lower + g.stack
+            stack[:], g.stack = lower + g.stack, stack
             if ended is None:
                 return None
         return Ended(Outcome('value' if pending.kind == 'return' else 'fault', pending.what))
@@ -151,7 +152,7 @@ class HandedAtRelease(Rule):
 
     def wait_holds(self, wait: Wait, since: int) -> bool:
         if wait.kind == 'acquire' and wait.thing.kind != 'rlock' and since == NEWCOMER:
-            return wait.thing.units > 0 and not super().earlier(wait.thing, 'unit', since)
+            return wait.thing.units > 0 and not Ruled.earlier(self, wait.thing, 'unit', since)
         return super().wait_holds(wait, since)
 
     def handed(self, thing: Thing) -> int:
