@@ -1,9 +1,10 @@
 """The command `gvr beside`: words in, a report on standard output, a status."""
 import argparse
+import importlib
 import json
 import os
 import sys
-from typing import Callable, Dict, FrozenSet, List, Optional, Sequence, Tuple
+from typing import Any, Callable, Dict, FrozenSet, List, Optional, Sequence, Tuple
 
 from .as_python import NotWritten, program
 from .compare import Task, close_sides, sides_of, verdict
@@ -175,10 +176,10 @@ def why_void(nothing: str, theirs: List[Event], deaths: Sequence[str]) -> str:
 def under_gevent(given: argparse.Namespace) -> int:
     """A Python program is gvr.live's."""
     try:
-        from ..live.under_gevent import main as compare_program
+        comparing: Any = importlib.import_module('gvr.live.under_gevent')
     except ImportError as error:
         raise Trouble('%s is a Python program, which needs gvr.live: %s' % (given.files[0], error)) from None
-    return int(compare_program([*given.files]))
+    return int(comparing.main([*given.files]))
 
 
 # ------------------------------------------------------------ check, hunt, and the small ones

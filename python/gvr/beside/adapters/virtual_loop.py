@@ -22,11 +22,12 @@ function of the scenario.
 """
 import heapq
 import itertools
+import os
 import sys
 import threading
 from collections import deque
 
-COST = 0.0                   # what one callback costs, in seconds of the virtual clock
+COST = float(os.environ.get('VIRTUAL_LOOP_COST', '0'))     # what one callback costs, in seconds of the virtual clock
 PRIORITIES = True            # False: timers have none, as under libuv
 
 

@@ -58,14 +58,23 @@ def explain(agrees: Callable[[FrozenSet[str]], bool], rules: Optional[Sequence[s
     """The smallest set of rules for which agrees(set) holds, or None. First all of them; if they do not do, some few:
     rules can stand in each other's way."""
     tried = sets()['gevent'] if rules is None else tuple(rules)
-    if not agrees(frozenset(tried)):
-        for count in range(1, most + 1):
-            for some in combinations(tried, count):
-                if agrees(frozenset(some)):
-                    return some
-        return None
-    need = set(tried)
-    for each in tried:                                       # leave out what is not needed
-        if agrees(frozenset(need - {each})):
-            need.discard(each)
-    return tuple(each for each in tried if each in need)
+    if agrees(frozenset(tried)):
+        needed = without(agrees, frozenset(tried), tried)
+        return tuple(each for each in tried if each in needed)
+    for count in range(1, most + 1):
+        for some in combinations(tried, count):
+            if agrees(frozenset(some)):
+                return some
+    return None
+
+
+def without(agrees: Callable[[FrozenSet[str]], bool], kept: FrozenSet[str], some: Sequence[str]) -> FrozenSet[str]:
+    """What is left of `kept` if those of `some` are left out that are not needed: all at once if none is, else those of
+    its first half, then of its second."""
+    less = kept - frozenset(some)
+    if agrees(less):
+        return less
+    if len(some) == 1:
+        return kept
+    half = len(some) // 2
+    return without(agrees, without(agrees, kept, some[:half]), some[half:])
