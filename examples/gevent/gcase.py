@@ -16,7 +16,7 @@ from gevent.event import AsyncResult, Event
 from gevent.exceptions import LoopExit
 from gevent.lock import BoundedSemaphore, RLock, Semaphore
 from gevent.pool import Group, Pool
-from gevent.queue import Empty, Full, JoinableQueue, LifoQueue, PriorityQueue, Queue
+from gevent.queue import Channel, Empty, Full, JoinableQueue, LifoQueue, PriorityQueue, Queue
 from gevent.threadpool import ThreadPool
 
 MS = float(os.environ.get("GCASE_MS", "0.004"))
@@ -52,7 +52,7 @@ def text(v):
         return name(v)
     if isinstance(v, BaseException):
         if isinstance(v, Timeout):
-            return "Timeout(%s)" % TIMEOUTS.get(id(v), "?")
+            return "Timeout(%s)" % timeout_number(v)
         return ("Error(%s)" % v.args[0]) if isinstance(v, Err) else type(v).__name__
     return str(v)
 
@@ -64,15 +64,22 @@ class Err(Exception):
 TIMEOUTS = {}
 
 
+KEEP_T = []
+
+
+def timeout_number(t):
+    """The number of a Timeout, drawn at its first mention: that of one that gevent made, where it is told."""
+    if id(t) not in TIMEOUTS:
+        TIMEOUTS[id(t)] = len(TIMEOUTS) + 1
+        KEEP_T.append(t)
+    return TIMEOUTS[id(t)]
+
+
 def T(ms, silent=False):
     """A gevent Timeout, numbered in order of making; use it as `with T(5):`."""
-    t = Timeout(ms * MS, False if silent else None)
-    TIMEOUTS[id(t)] = len(TIMEOUTS) + 1
-    KEEP_T.append(t)
+    t = Timeout(None if ms is None else ms * MS, False if silent else None)
+    timeout_number(t)
     return t
-
-
-KEEP_T = []
 
 
 def P(v):

@@ -1,0 +1,1 @@
+"""A runtime beside gvr: the same scenario by the model and by a real runtime, compared event by event."""

@@ -1,0 +1,1 @@
+"""Programs that run a scenario by a real runtime: trees as JSON lines in, events as JSON lines out."""
