@@ -1,0 +1,253 @@
+"""What each command of the front does. Each call gives an answer: its status, what is still to be written, and what is
+said on standard error."""
+import os
+import pathlib
+import subprocess
+import sys
+import time
+from typing import Iterator, List, Optional, Sequence, Tuple
+
+from . import colour, compare, endings, explain, json_lines as as_json, stats as counts, usage
+from .comments import with_comments
+from .commands import BY_NAME, RUN_OPTIONS
+from .files import MOST_CHECKED, MOST_TEXT, read_text
+from .program import NOT_PROVED, TOP, Answer, ask, built_program, put, show
+from .traces import Entry, entries
+from .words import Call, first_line_words, read_call, words_to_run
+
+DONE, DIFFERS, NO_COMMAND = 0, 1, 2
+BUDGETS = ("--turns", "--moves")
+# How often a file that is watched is looked at, in seconds.
+LOOK = 0.2
+CLEAR = "\x1b[H\x1b[2J\x1b[3J"
+
+
+def finish(answer: Answer) -> int:
+    """Writes what is left of an answer; the status."""
+    if answer.out and not put(answer.out):
+        return 5
+    if answer.complaint:
+        sys.stderr.write(answer.complaint)
+        sys.stderr.flush()
+    return answer.status
+
+
+def note_the_model() -> None:
+    """Tells who answers, if it is not the program."""
+    if not built_program():
+        print(NOT_PROVED, file=sys.stderr, flush=True)
+
+
+def with_more(words: List[str], text: bytes, answer: Answer) -> Answer:
+    """The answer with what the front tells behind it."""
+    return answer._replace(complaint=answer.complaint + endings.told(words, text, answer))
+
+
+def no_command(name: str, call: Call, why: str = "") -> Answer:
+    """The answer to files that do not fit a command of the front."""
+    return Answer(NO_COMMAND, b"", (f"gvr: {why}\n" if why else "") + usage.wrong_words(BY_NAME[name], call))
+
+
+def read_one(name: str, words: Sequence[str]) -> Tuple[Call, Optional[Answer]]:
+    """The words of a command that takes at most one file; the answer to them if they have more."""
+    call = read_call(BY_NAME[name], words[1:])
+    return call, no_command(name, call, f"{name} takes one file") if len(call.files) > 1 else None
+
+
+def file_of(call: Call) -> Optional[str]:
+    """The file of a call, if it has one."""
+    return call.files[0] if call.files else None
+
+
+def run(words: List[str]) -> Answer:
+    """Runs a scenario; its trace goes out as it comes."""
+    call, refused = read_one("run", words)
+    if refused:
+        return refused
+    text = read_text(file_of(call), MOST_TEXT)
+    is_of_sources = call.has("--sources")
+    asked = ["run", *words_to_run(call.without("--sources"), text, RUN_OPTIONS)]
+    if is_of_sources:
+        ended = subprocess.run([TOP / "tools/run_sources", *asked], input=text)
+        return Answer(ended.returncode, b"", "")
+    note_the_model()
+    return with_more(asked, text, show(asked, text, colour.how_to_draw()))
+
+
+def fmt(words: List[str]) -> Answer:
+    """Writes the printed form with its comments, or tells whether the text is so already."""
+    call, refused = read_one("fmt", words)
+    if refused:
+        return refused
+    text = read_text(file_of(call), MOST_TEXT)
+    asked = ["fmt", *call.without("--check").options]
+    note_the_model()
+    answer = ask(asked, text)
+    if answer.status:
+        return with_more(asked, text, answer)
+    formatted = with_comments(text.decode("ascii"), answer.out.decode("ascii")).encode("ascii")
+    if not call.has("--check"):
+        return answer._replace(out=formatted)
+    if formatted == text:
+        return answer._replace(out=b"")
+    pairs = zip(text.split(b"\n"), formatted.split(b"\n"))
+    line = next(number for number, (one, other) in enumerate(pairs, 1) if one != other)
+    return Answer(DIFFERS, b"", f"{file_of(call) or 'standard input'}: line {line} is not as gvr fmt writes it\n")
+
+
+def verify(words: List[str]) -> Answer:
+    """Verifies a trace; where it is not the run's, the line that the run has is shown."""
+    call = read_call(BY_NAME["verify"], words[1:])
+    is_of_laws = call.value("--check") == "laws"
+    if len(call.files) not in ((0, 1) if is_of_laws else (0, 2)):
+        return no_command("verify", call, "verify takes a scenario and its trace, or no file")
+    given = read_text(file_of(call), MOST_CHECKED)
+    asked = ["verify", *(call.options if is_of_laws else words_to_run(call, given, BUDGETS))]
+    if len(call.files) == 2:
+        given += (b"" if given.endswith(b"\n") else b"\n") + b"====\n" + read_text(call.files[1], MOST_CHECKED)
+    note_the_model()
+    return with_more(asked, given, ask(asked, given))
+
+
+def scenarios(named: Sequence[str]) -> Iterator[pathlib.Path]:
+    """The files that are named, and those NAME.gvr of the folders."""
+    for it in map(pathlib.Path, named):
+        yield from sorted(it.glob("*.gvr")) if it.is_dir() else [it]
+
+
+def try_all(words: List[str]) -> Answer:
+    """Shows the trace of each scenario under its name, with what is said of it."""
+    call = read_call(BY_NAME["try"], words[1:])
+    if call.has("--sources"):
+        os.execv(TOP / "tools/try_all", ["try_all", *call.files])
+    files = list(scenarios(call.files))
+    if not files or call.options:
+        return no_command("try", call, "which scenarios? There is no file NAME.gvr" if call.files else "which scenarios?")
+    note_the_model()
+    draw = colour.how_to_draw()
+    for file in files:
+        text = read_text(str(file), MOST_TEXT)
+        asked = ["run", *(first_line_words(text) or [])]
+        answer = with_more(asked, text, ask(asked, text))
+        lines = answer.out if draw is None else b"".join(map(draw, answer.out.splitlines(True)))
+        put(f"== {file.stem}\n".encode() + lines + answer.complaint.encode())
+        if answer.status:
+            put(f"-- {file.stem} ended with status {answer.status}\n".encode())
+    return Answer(DONE, b"", "")
+
+
+def watch(words: List[str]) -> Answer:
+    """Runs a scenario now and at each save, until it is interrupted."""
+    call, refused = read_one("watch", words)
+    if refused or not call.files:
+        return refused or no_command("watch", call, "which file?")
+    seen: object = None
+    while True:
+        try:
+            now: object = (os.stat(call.files[0]).st_mtime_ns, os.stat(call.files[0]).st_size)
+        except OSError:
+            now = seen
+        if now != seen or seen is None:
+            seen = now
+            put((CLEAR if sys.stdout.isatty() else "").encode() + f"-- {call.files[0]}\n".encode())
+            status = finish(run(["run", *call.options, call.files[0]]))
+            put(f"-- ended with status {status}; waits for the next save, Ctrl-C ends it\n".encode())
+        time.sleep(LOOK)
+
+
+def explained(words: List[str]) -> Answer:
+    """Tells what a reason, a status, a cause or a law means."""
+    text = explain.explained(words[1:])
+    if text is None:
+        return no_command("explain", Call((), ()), f"nothing is known of {' '.join(words[1:])}")
+    return Answer(DONE, text.encode(), "")
+
+
+class NoTrace(Exception):
+    """A file gives no trace; `answer` is what the call ends with."""
+
+    def __init__(self, answer: Answer) -> None:
+        super().__init__()
+        self.answer = answer
+
+
+def trace_of(file: Optional[str], call: Call) -> Tuple[List[str], bytes, Answer]:
+    """The words and the text of a scenario, and its run; or of a file that holds a trace, with no words and no scenario."""
+    text = read_text(file, MOST_CHECKED)
+    if text.startswith(b"start g0 "):
+        return [], b"", Answer(DONE, text, "")
+    asked = ["run", *words_to_run(call, text, RUN_OPTIONS)]
+    note_the_model()
+    answer = ask(asked, text[:MOST_TEXT])
+    if not answer.out:
+        raise NoTrace(with_more(asked, text, answer))
+    return asked, text, answer
+
+
+def entries_of(trace: bytes) -> List[Entry]:
+    """The lines of a trace; NoTrace where there is one that is none."""
+    try:
+        return list(entries(trace.decode("ascii", "replace").splitlines()))
+    except ValueError as fault:
+        raise NoTrace(Answer(9, b"", f"gvr: {fault}\n")) from None
+
+
+def diff(words: List[str]) -> Answer:
+    """Compares two traces, or the runs of two scenarios."""
+    call = read_call(BY_NAME["diff"], words[1:])
+    if len(call.files) != 2 or call.options:
+        return no_command("diff", call, "diff takes two traces or scenarios")
+    try:
+        a, b = (entries_of(trace_of(file, call)[2].out) for file in call.files)
+    except NoTrace as fault:
+        return fault.answer
+    differences = compare.compared(a, b)
+    return Answer(DIFFERS if differences else DONE, differences.encode(), "")
+
+
+def stats(words: List[str]) -> Answer:
+    """Tells how long each greenlet waited."""
+    call, refused = read_one("stats", words)
+    if refused:
+        return refused
+    try:
+        answer = trace_of(file_of(call), call)[2]
+        return answer._replace(out=counts.table(entries_of(answer.out)).encode())
+    except NoTrace as fault:
+        return fault.answer
+
+
+def json_lines(words: List[str]) -> Answer:
+    """Writes a trace as JSON lines."""
+    call, refused = read_one("json", words)
+    if refused:
+        return refused
+    try:
+        asked, text, answer = trace_of(file_of(call), call)
+        found = entries_of(answer.out)
+    except NoTrace as fault:
+        return fault.answer
+    from . import replay
+    by = ("program" if built_program() else "model") if asked else "file"
+    at = replay.lines(asked, text, answer.out) if asked else []
+    lines = [as_json.head(by, asked), *as_json.json_lines(found, at)]
+    return answer._replace(out="".join(lines).encode())
+
+
+def storm(words: List[str]) -> Answer:
+    """Runs the storm."""
+    note_the_model()
+    return with_more(words, b"", show(words, b""))
+
+
+def pass_on(words: List[str]) -> Answer:
+    """Lets the program, or its sources, do what only these can."""
+    ended = subprocess.run([built_program() or TOP / "tools/run_sources", *words])
+    return with_more(words, b"", Answer(ended.returncode, b"", ""))
+
+
+def after(words: List[str]) -> Answer:
+    """What is told behind a call of the program that has ended: `after STATUS WORDS..`, with the text as standard input."""
+    status, asked = int(words[1]), words[2:]
+    text = read_text(None, MOST_TEXT) if asked[0] == "run" else b""
+    return Answer(DONE, endings.told(asked, text, Answer(status, b"", "")).encode(), "")
