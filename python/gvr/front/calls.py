@@ -74,25 +74,36 @@ def run(words: List[str]) -> Answer:
     return with_more(asked, text, show(asked, text, colour.how_to_draw()))
 
 
-def fmt(words: List[str]) -> Answer:
-    """Writes the printed form with its comments, or tells whether the text is so already."""
-    call, refused = read_one("fmt", words)
-    if refused:
-        return refused
-    text = read_text(file_of(call), MOST_TEXT)
+def formatted(file: Optional[str], call: Call) -> Tuple[bytes, Answer]:
+    """A text, and its printed form with its comments, or the answer that refuses it."""
+    text = read_text(file, MOST_TEXT)
     asked = ["fmt", *call.without("--check").options]
-    note_the_model()
     answer = ask(asked, text)
     if answer.status:
-        return with_more(asked, text, answer)
-    formatted = with_comments(text.decode("ascii"), answer.out.decode("ascii")).encode("ascii")
-    if not call.has("--check"):
-        return answer._replace(out=formatted)
-    if formatted == text:
+        return text, with_more(asked, text, answer)
+    return text, answer._replace(out=with_comments(text.decode("ascii"), answer.out.decode("ascii")).encode("ascii"))
+
+
+def checked(file: Optional[str], call: Call) -> Answer:
+    """Whether a text is as `fmt` writes it."""
+    text, answer = formatted(file, call)
+    if answer.status or answer.out == text:
         return answer._replace(out=b"")
-    pairs = zip(text.split(b"\n"), formatted.split(b"\n"))
+    pairs = zip(text.split(b"\n"), answer.out.split(b"\n"))
     line = next(number for number, (one, other) in enumerate(pairs, 1) if one != other)
-    return Answer(DIFFERS, b"", f"{file_of(call) or 'standard input'}: line {line} is not as gvr fmt writes it\n")
+    return Answer(DIFFERS, b"", f"{file or 'standard input'}: line {line} is not as gvr fmt writes it\n")
+
+
+def fmt(words: List[str]) -> Answer:
+    """Writes the printed form with its comments, or tells which texts are not so."""
+    call = read_call(BY_NAME["fmt"], words[1:])
+    note_the_model()
+    if call.has("--check"):
+        answers = [checked(it, call) for it in call.files or [None]]
+        return Answer(max(it.status for it in answers), b"", "".join(it.complaint for it in answers))
+    if len(call.files) > 1:
+        return no_command("fmt", call, "fmt takes one file")
+    return formatted(file_of(call), call)[1]
 
 
 def verify(words: List[str]) -> Answer:

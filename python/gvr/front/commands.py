@@ -51,7 +51,7 @@ OPTIONS: Dict[str, Option] = {it.name: it for it in (
 )}
 # The front's own `--check` of fmt is a flag, unlike that of verify.
 FMT_CHECK = Option("--check", "", "say whether the file is formatted",
-                   "Nothing is written; the status is 1 if the text is not as fmt would write it.")
+                   "Nothing is written; the status is 1 if a text is not as fmt would write it, and a line says where.")
 
 RUN_OPTIONS = ("--turns", "--moves", "--tick", "--native", "--order")
 RUN_SYNOPSIS = "[--turns N] [--moves N] [--tick N] [--native N [--order free|held]]"
@@ -62,8 +62,8 @@ COMMANDS: Tuple[Command, ...] = (
             "wait, wake and end. If the scenario's first line is `# run OPTIONS`, it is run with these, unless the call "
             "has options of its own.",
             (*RUN_OPTIONS, "--sources"), True),
-    Command("fmt", ("[--check] [FILE]",), "write a scenario as it is to be indented",
-            "Writes the printed form of a scenario, with its comments.", ("--check",), True),
+    Command("fmt", ("[FILE]", "--check FILE.."), "write a scenario as it is to be indented",
+            "Writes the printed form of a scenario, with its comments; with `--check` says whether files are written so.", ("--check",), True),
     Command("verify", ("[--turns N] [--moves N] [FILE TRACE]", "--check laws [TRACE]"), "check a trace",
             "Says whether TRACE is the run of the scenario FILE, under the answers that its turn lines have; with "
             "`--check laws` whether it meets the laws. Without files it reads the standard input: the scenario, a line of "

@@ -27,7 +27,7 @@ def scenario_part(words: Sequence[str], text: bytes) -> Optional[bytes]:
     return (scenario + b"\n")[1:] if found else None
 
 
-def refused(words: Sequence[str], text: bytes, complaint: str) -> str:
+def refused(words: Sequence[str], text: bytes, complaint: Optional[str]) -> str:
     """The refusals of a text, drawn."""
     from . import refusal
     scenario = scenario_part(words, text)
@@ -42,7 +42,7 @@ def told(words: List[str], text: bytes, answer: Answer) -> str:
     if answer.status == NO_COMMAND:
         return usage.wrong_words(command, read_call(command, words[1:]))
     if answer.status == REFUSED:
-        return refused(words, text, answer.complaint)
+        return refused(words, text, answer.complaint or None)
     if answer.status == NOT_VERIFIED:
         from . import replay
         return replay.verdict_told(words, text, answer.complaint)

@@ -1,6 +1,6 @@
 """A refusal as `gvr` shows it: the line, a caret under the word, what was wanted there, and what people mean by it."""
 import re
-from typing import List, Sequence
+from typing import List, Optional, Sequence
 
 from gvr.model import Refusal, refusals
 from gvr.model.syntax import WORDS
@@ -106,9 +106,11 @@ def all_refusals(text: bytes) -> List[Refusal]:
     return [it for it in found[:1] + others if it.reason != 14 or not is_main_begun]
 
 
-def shown(text: bytes, told: str) -> str:
-    """What is shown of a refused text behind the line that the program told of it: that refusal drawn, and the others."""
+def shown(text: bytes, told: Optional[str] = None) -> str:
+    """What is shown of a refused text behind the line that the program told of it, the first one where none is given: that
+    refusal drawn, and the others."""
     found = all_refusals(text)
+    told = "".join(str(it) for it in found[:1]) if told is None else told
     lines: List[str] = []
     names = reasons()
     for refusal in found[:MOST_SHOWN]:
