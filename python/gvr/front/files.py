@@ -1,4 +1,7 @@
 """The texts that a call reads: files, or the standard input."""
+import errno
+import io
+import itertools
 import os
 import sys
 from typing import Optional
@@ -9,12 +12,16 @@ from .program import READ_FAULT, Answer
 MOST_TEXT, MOST_CHECKED = 1048576 + 1, 67108864 + 1
 
 
+# `./gvr` opens the standard input for writing where it is a folder, over which Python does not start.
+OF_NUMBERS = {errno.EBADF: "a folder, or not open for reading"}
+
+
 class Unread(Exception):
     """A text could not be read; `answer` is what the call ends with."""
 
     def __init__(self, name: str, fault: OSError) -> None:
         super().__init__(name)
-        cause = os.strerror(fault.errno) if fault.errno else str(fault)
+        cause = OF_NUMBERS.get(fault.errno or 0) or fault.strerror or str(fault)
         self.answer = Answer(READ_FAULT, b"", f"gvr: read fault\n{name}: {cause}\n")
 
 
@@ -45,3 +52,8 @@ def read_text(file: Optional[str], most: int) -> bytes:
             return opened.read(most)
     except OSError as fault:
         raise Unread(file, fault) from None
+
+
+def nth_line(text: bytes, number: int) -> bytes:
+    """The line of this number, from 1, without its line feed; nothing behind the last one."""
+    return next(itertools.islice(io.BytesIO(text), number - 1, number), b"").rstrip(b"\n")

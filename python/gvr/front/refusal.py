@@ -7,24 +7,23 @@ from gvr.model.syntax import WORDS
 
 from .advice import ONE_WORD, RESERVED_ROW, VALUES, advice
 from .explain import reasons
+from .files import nth_line
 from .usage import nearest
 
 # How many refusals of one text are shown, and how wide a line is shown.
 MOST_SHOWN, WIDEST = 12, 200
+KINDS = rb"event|result|sem|bsem|rlock|queue|group|pool|native|channel"
 OF_BYTES = {9: "a tab: indent with blanks", 13: "a carriage return: end lines with a line feed alone"}
 
 
 def line_of(text: bytes, number: int) -> str:
     """The line of this number, as far as it is shown: other bytes than printable ASCII are question marks."""
-    lines = text.split(b"\n")
-    line = lines[number - 1] if number <= len(lines) else b""
-    return "".join(chr(it) if 32 <= it < 127 else "?" for it in line[:WIDEST])
+    return "".join(chr(it) if 32 <= it < 127 else "?" for it in nth_line(text, number)[:WIDEST])
 
 
 def is_object(text: bytes, word: str) -> bool:
     """Whether a line declares an object of this name."""
-    kinds = rb"event|result|sem|bsem|rlock|queue|group|pool|native|channel"
-    return bool(word and re.search(rb"^ *(?:" + kinds + rb") " + re.escape(word.encode()) + rb"\b", text, re.M))
+    return bool(word and re.search(rb"^ *(?:" + KINDS + rb") " + re.escape(word.encode()) + rb"\b", text, re.M))
 
 
 def is_parameter(text: bytes, number: int, word: str) -> bool:
@@ -36,9 +35,8 @@ def is_parameter(text: bytes, number: int, word: str) -> bool:
 
 def byte_at(text: bytes, refusal: Refusal) -> int:
     """The byte that is refused, or -1."""
-    line = text.split(b"\n")[refusal.line - 1:refusal.line]
-    at = refusal.column - 1
-    return line[0][at] if line and 0 <= at < len(line[0]) else -1
+    line, at = nth_line(text, refusal.line), refusal.column - 1
+    return line[at] if 0 <= at < len(line) else -1
 
 
 def wanted_there(text: bytes, refusal: Refusal) -> str:
@@ -50,7 +48,7 @@ def wanted_there(text: bytes, refusal: Refusal) -> str:
 
 def names_in(text: bytes) -> List[str]:
     """The names that a text gives: of objects, functions, parameters and local names."""
-    found: List[bytes] = re.findall(rb"\b(?:let|event|result|b?sem|rlock|queue|group|pool|native|channel) ([a-z]\w*)", text)
+    found: List[bytes] = re.findall(rb"\b(?:let|" + KINDS + rb") ([a-z]\w*)", text)
     found += re.findall(rb"\b([a-z]\w*) <- ", text)
     for head in re.findall(rb"^ *(?:def|rawdef) (.*)$", text, re.M):
         found += head.split()
@@ -100,8 +98,7 @@ def drawn(text: bytes, refusal: Refusal) -> List[str]:
 def all_refusals(text: bytes) -> List[Refusal]:
     """All that is wrong with a text, without what is missing only since the line that begins it is refused."""
     found = refusals(text)
-    begun = {it.line for it in found if line_of(text, it.line).split()[:2] == ["def", it.word]}
-    is_main_begun = any(line_of(text, line).split()[1].startswith("main") for line in begun)
+    is_main_begun = any(it.reason == 10 and it.word.startswith("main") for it in found)
     others = sorted(found[1:], key=lambda it: it.line)
     return [it for it in found[:1] + others if it.reason != 14 or not is_main_begun]
 

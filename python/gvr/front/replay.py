@@ -7,6 +7,7 @@ from gvr.model.verify import TraceWorld, VerifyingMachine, Wrong
 
 from . import explain
 from .commands import BY_NAME
+from .files import nth_line
 from .words import read_call
 
 USUAL_TURNS, USUAL_MOVES = 1000000, 10000000
@@ -55,9 +56,7 @@ def lines(words: Sequence[str], scenario: bytes, trace: bytes) -> List[Optional[
 
 def line_in(trace: bytes, number: int) -> str:
     """The line of this number, or that there is none."""
-    found = trace.split(b"\n")
-    text = found[number - 1].decode("ascii", "replace") if number <= len(found) else ""
-    return text or "no line"
+    return nth_line(trace, number).decode("ascii", "replace") or "no line"
 
 
 def law_told(trace: bytes, number: int, law: int) -> str:
