@@ -2,22 +2,32 @@
 _gvr() {
   local word=${COMP_WORDS[COMP_CWORD]} before=${COMP_WORDS[COMP_CWORD - 1]} options=
   case $before in
-    --gateway) COMPREPLY=($(compgen -W "http scgi" -- "$word")); return ;;
-    --order) COMPREPLY=($(compgen -W "free held" -- "$word")); return ;;
-    --check) COMPREPLY=($(compgen -W "run laws" -- "$word")); return ;;
+    --order) [ "${COMP_WORDS[1]}" = fmt ] || { COMPREPLY=($(compgen -W "free held" -- "$word")); return; } ;;
+    --check) [ "${COMP_WORDS[1]}" = fmt ] || { COMPREPLY=($(compgen -W "run laws" -- "$word")); return; } ;;
+    --gateway) [ "${COMP_WORDS[1]}" = fmt ] || { COMPREPLY=($(compgen -W "http scgi" -- "$word")); return; } ;;
   esac
   if [ "$COMP_CWORD" -eq 1 ]; then
-    COMPREPLY=($(compgen -W "run fmt wsgi serve storm verify try" -- "$word"))
+    COMPREPLY=($(compgen -W "run fmt verify try watch explain diff stats json storm wsgi serve live beside app --help --version" -- "$word"))
     return
   fi
   case ${COMP_WORDS[1]} in
-    run) options="--turns --moves --tick --native --order" ;;
+    run) options="--turns --moves --tick --native --order --sources" ;;
+    fmt) options="--check" ;;
+    verify) options="--check --turns --moves" ;;
+    try) options="--sources" ;;
+    watch) options="--turns --moves --tick --native --order" ;;
+    stats) options="--turns --moves --tick --native --order" ;;
+    json) options="--turns --moves --tick --native --order" ;;
+    storm) options="--size" ;;
     wsgi) options="--gateway" ;;
     serve) options="--port --conns --pool --idle --jobs --gateway" ;;
-    storm) options="--size" ;;
-    verify) options="--check --turns --moves" ;;
-    try) COMPREPLY=($(compgen -f -- "$word")); return ;;
   esac
-  COMPREPLY=($(compgen -W "$options" -- "$word"))
+  case $word in
+    -*) COMPREPLY=($(compgen -W "$options --help" -- "$word")) ;;
+    *) case ${COMP_WORDS[1]} in
+      run|fmt|verify|try|watch|explain|diff|stats|json|live|beside|app) COMPREPLY=($(compgen -f -- "$word")) ;;
+      *) COMPREPLY=($(compgen -W "$options --help" -- "$word")) ;;
+    esac ;;
+  esac
 }
 complete -F _gvr gvr ./gvr

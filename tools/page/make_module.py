@@ -21,6 +21,8 @@ import time
 
 HERE = pathlib.Path(__file__).resolve().parent
 TOP = HERE.parent.parent
+sys.path.insert(0, str(TOP / "tools"))
+import crates  # noqa: E402
 KIT = pathlib.Path(os.path.realpath(shutil.which("rt") or sys.exit("make_module: there is no rt"))).parent.parent
 CLANG = KIT / "toolchain/bin/clang"
 NAME = "gvr_page"
@@ -53,29 +55,10 @@ def call(*words):
         stop(f"{words[0]} failed")
 
 
-def crates():
-    """What each crate of crates.txt uses."""
-    found = {}
-    for line in (TOP / "crates.txt").read_text().splitlines():
-        head, _, used = line.partition("#")[0].partition(":")
-        if head.strip():
-            found[head.split()[0]] = used.split()
-    return found
-
-
-def below(name, uses, seen):
-    """The crates below one, in any depth."""
-    for it in uses[name]:
-        if it in uses and it not in seen:
-            seen.append(it)
-            below(it, uses, seen)
-    return seen
-
-
-def checksum(uses):
+def checksum():
     """The checksum of what the module is made from: the sources of its crates, the heap, this script, the kit."""
     of = hashlib.sha256(subprocess.run(["rt", "version"], capture_output=True, check=True).stdout)
-    sources = [it for crate in [NAME, *below(NAME, uses, [])] for it in (TOP / "crates" / crate / "src").rglob("*.rt")]
+    sources = [it for crate in crates.crates_below(NAME) for it in (TOP / "crates" / crate / "src").rglob("*.rt")]
     for file in [*sorted(sources), HERE / "heap.c", HERE / "make_module.py", TOP / "crates.txt"]:
         of.update(f"{file.relative_to(TOP)}\0".encode() + hashlib.sha256(file.read_bytes()).digest())
     return of.hexdigest()[:16]
@@ -110,7 +93,7 @@ def words_of(uses):
     words = ["--crate-name", NAME, "src/lib.rt"]
     for it in ["core", "std", *uses[NAME]]:
         words += ["--extern", f"{it}={place_of(it) if it in uses else KIT / 'rlibs'}/{it}.rlib"]
-    for place in dict.fromkeys([KIT / "rlibs", *map(place_of, below(NAME, uses, []))]):
+    for place in dict.fromkeys([KIT / "rlibs", *map(place_of, crates.crates_below(NAME)[:-1])]):
         words += ["-L", f"dependency={place}"]
     return [*words, "--antt-project", KIT / "rattle/logic/antt-project.json", "--links", f"{NAME}=", "--crate-type", "staticlib"]
 
@@ -179,10 +162,10 @@ def make(to, uses):
 
 
 def main():
-    began, uses = time.time(), crates()
+    began, uses = time.time(), crates.named_crates()
     kept = CRATE / "out/modules"
     kept.mkdir(parents=True, exist_ok=True)
-    module = kept / f"{checksum(uses)}.wasm"
+    module = kept / f"{checksum()}.wasm"
     is_made = module.exists()
     if not (is_made and IS_PROVED) and not is_proved(uses):
         print("make_module: proves gvr_page, which takes some minutes", file=sys.stderr)
