@@ -14,7 +14,7 @@ function call(words, text, room) {
   const given = new TextEncoder().encode(words.join("\n"));
   const errRoom = 4096, lengths = 16;
   const whole = given.length + text.length + room + errRoom + lengths + 64;
-  const at = Number(memory.grow(BigInt(Math.ceil(whole / 65536)))) * 65536;
+  const at = memory.grow(Math.ceil(whole / 65536)) * 65536;
   const textAt = at + given.length, lengthsAt = (textAt + text.length + 15) & ~15;
   const errAt = lengthsAt + lengths, outAt = errAt + errRoom;
   new Uint8Array(memory.buffer, at, given.length).set(given);
