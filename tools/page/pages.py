@@ -1,0 +1,94 @@
+"""The pages of docs/ as markup for the page: headings, paragraphs, lists, tables and blocks of text."""
+import html
+import pathlib
+import re
+
+from statements import cells
+
+TOP = pathlib.Path(__file__).resolve().parent.parent.parent
+# The pages that the page has in it, with what a link to each says.
+SHOWN = {
+    "TOUR": "Tour",
+    "LANGUAGE": "Language",
+    "TRACE": "Traces",
+    "MACHINE": "Machine",
+    "FROM_GEVENT": "From gevent",
+    "EXPLAIN": "Explain",
+    "PROVED": "Proved",
+}
+
+
+def anchor(heading):
+    """What a link to a heading names."""
+    return re.sub(r"[^\w -]", "", heading.lower()).replace(" ", "-")
+
+
+def link(told, page):
+    """A link: to another page that is in here, or its text alone."""
+    text, target = told
+    name, _, heading = target.partition("#")
+    to = re.fullmatch(r"(?:docs/)?(\w+)\.md", name)
+    to = to[1] if to else page if not name else None
+    return f'<a href="#page:{to}:{heading}">{text}</a>' if to in SHOWN else text
+
+
+def inline(text, page):
+    """A text with its links, code, stress and weight."""
+    parts = re.split(r"(`[^`]*`)", html.escape(re.sub(r"!\[[^\]]*\]\([^)]*\)", "", text), quote=False))
+    kept = [f"<code>{it[1:-1]}</code>" if it.startswith("`") else it for it in parts]
+    # A code may stand in a link, so links are made of the whole.
+    whole = re.sub(r"\[([^\]]*)\]\(([^)\s]*)\)", lambda it: link(it.groups(), page), "".join(kept))
+    return re.sub(r"(?<![\w*])\*([^*<>]+)\*(?![\w*])", r"<em>\1</em>", re.sub(r"\*\*([^*]+)\*\*", r"<b>\1</b>", whole))
+
+
+def table(lines, page):
+    rows = [cells(it) for it in lines if not re.fullmatch(r"[|\- :]+", it)]
+    has_head = len(rows) > 1 and any(rows[0])
+    made = []
+    for at, row in enumerate(rows if any(rows[0]) else rows[1:]):
+        kind = "th" if has_head and at == 0 else "td"
+        made.append("<tr>" + "".join(f"<{kind}>{inline(it, page)}</{kind}>" for it in row) + "</tr>")
+    return f"<table>{''.join(made)}</table>"
+
+
+def listed(text, page):
+    """The items of a list."""
+    kind = "ol" if text[0].isdigit() else "ul"
+    items = re.split(r"^(?:[-*]|\d+\.) ", text, flags=re.M)[1:]
+    return f"<{kind}>" + "".join(f"<li>{inline(' '.join(it.split()), page)}</li>" for it in items) + f"</{kind}>"
+
+
+def block(text, page):
+    """The markup of one block of lines."""
+    if head := re.match(r"(#+) (.*)$", text):
+        depth = min(len(head[1]) + 1, 4)
+        name = f"{page}:{anchor(head[2])}"
+        rest = text[head.end() :].strip("\n")
+        return f'<h{depth} id="{name}">{inline(head[2], page)}</h{depth}>' + (block(rest, page) if rest else "")
+    lines = text.split("\n")
+    if all(it.startswith("|") for it in lines):
+        return table(lines, page)
+    if all(it.startswith("    ") for it in lines):
+        return "<pre>" + html.escape("\n".join(it[4:] for it in lines), quote=False) + "</pre>"
+    if re.match(r"[-*] |\d+\. ", text):
+        return listed(text, page)
+    return f"<p>{inline(' '.join(text.split()), page)}</p>"
+
+
+def markup(name):
+    """A page of docs/ as an article."""
+    made = []
+    for part in re.split(r"^(```.*\n(?:.*\n)*?```)$", (TOP / f"docs/{name}.md").read_text(), flags=re.M):
+        if part.startswith("```"):
+            made.append("<pre>" + html.escape(part.partition("\n")[2].rpartition("\n")[0], quote=False) + "</pre>")
+        else:
+            made += [block(it.strip("\n"), name) for it in re.split(r"\n{2,}", part) if it.strip()]
+    return f'<article id="page:{name}" hidden>\n' + "\n".join(it for it in made if it != "<p></p>") + "\n</article>"
+
+
+def pages():
+    return "\n".join(markup(it) for it in SHOWN)
+
+
+def links():
+    return "\n".join(f'<a href="#page:{name}:">{text}</a>' for name, text in SHOWN.items())
