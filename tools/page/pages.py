@@ -34,11 +34,14 @@ def link(told, page):
 
 def inline(text, page):
     """A text with its links, code, stress and weight."""
-    parts = re.split(r"(`[^`]*`)", html.escape(re.sub(r"!\[[^\]]*\]\([^)]*\)", "", text), quote=False))
-    kept = [f"<code>{it[1:-1]}</code>" if it.startswith("`") else it for it in parts]
-    # A code may stand in a link, so links are made of the whole.
-    whole = re.sub(r"\[([^\]]*)\]\(([^)\s]*)\)", lambda it: link(it.groups(), page), "".join(kept))
-    return re.sub(r"(?<![\w*])\*([^*<>]+)\*(?![\w*])", r"<em>\1</em>", re.sub(r"\*\*([^*]+)\*\*", r"<b>\1</b>", whole))
+    text = html.escape(re.sub(r"!\[[^\]]*\]\([^)]*\)", "", text), quote=False)
+    codes = re.findall(r"`([^`]*)`", text)
+    # What stands between backticks is put aside, so that nothing in it is read as a sign.
+    whole = re.sub(r"`[^`]*`", "\0", text)
+    whole = re.sub(r"\[([^\]]*)\]\(([^)\s]*)\)", lambda it: link(it.groups(), page), whole)
+    whole = re.sub(r"\*\*([^*]+)\*\*", r"<b>\1</b>", whole)
+    whole = re.sub(r"(?<![\w*])\*([^*]+)\*(?![\w*])", r"<em>\1</em>", whole)
+    return re.sub("\0", lambda _: f"<code>{codes.pop(0)}</code>", whole)
 
 
 def table(lines, page):

@@ -35,6 +35,23 @@ def parts(sentence):
     return found if "".join(f"{a}: {b}(`{c}`). " for a, b, c in found).rstrip() == sentence else []
 
 
+def outcome(trace):
+    """The numbers that were printed, each with its greenlet, and the end; a greenlet that a link called is `link`."""
+    links, told = set(), []
+    for line in trace.splitlines():
+        words = line.split(" ")
+        if words[0] == "link" and words[3] == "mark":
+            told.append(f"mark {words[4]}")
+        elif words[0] == "link" and words[3] != "set":
+            links.add(words[3])
+        elif words[0] == "print":
+            told.append(" ".join(["link" if words[1] in links else words[1], *words[2:]]))
+        elif words[0] == "stop":
+            cause = line[len("stop ") : line.index(" turns ")]
+            told.append("end" if cause == "value none" else f"end: {cause}")
+    return "; ".join(told)
+
+
 def indented(lines):
     """Lines of a scenario with two blanks for each block that is open."""
     depth, written = 0, []
@@ -69,8 +86,8 @@ def changes(name, sentence):
     words = re.match(r"# (run .*)\n", text)
     words = words[1].split() if words else None
     lines = [it.strip() for it in text.splitlines() if it.strip() and not it.strip().startswith("#")]
-    for edits, why, outcome in parts(sentence):
+    for edits, why, comes in parts(sentence):
         lines, wanted = changed(lines, edits)
         words = wanted or words
         head = f"# {' '.join(words)}\n" if words else ""
-        yield {"edits": edits, "why": why.strip(), "outcome": outcome, "text": head + "\n".join(indented(lines)) + "\n"}
+        yield {"edits": edits, "why": why.strip(), "outcome": comes, "text": head + "\n".join(indented(lines)) + "\n"}
