@@ -119,19 +119,16 @@ function putIn(lines) {
   replace(end, end, lines.map((it) => `\n${pad}${it}`).join(""));
 }
 
-/** The printed form with the lines that carry nothing where they stood: comments, indented as the line behind them. */
+/** The printed form with the comments where they stood, each as far in as the line behind it, or as the block that ends. */
 function withComments(printed, original) {
-  const lines = printed.split("\n").slice(0, -1), waiting = [], whole = [];
-  let at = 0;
-  for (const line of original.split("\n")) {
-    const is = line.trim();
-    if (is && !is.startsWith("#")) {
-      const put = lines[at++], pad = indentOf(put) + (/^(end|else|except|finally)\b/.test(put.trim()) ? "  " : "");
-      whole.push(...waiting.splice(0).map((it) => it && pad + it), put);
-    } else waiting.push(is);
+  const lines = printed.split("\n").slice(0, -1), whole = [];
+  for (const line of original.split("\n").map((it) => it.trim())) {
+    if (line.startsWith("#")) {
+      const [next = ""] = lines;
+      whole.push(indentOf(next) + (/^(end|else|except|finally)\b/.test(next.trim()) ? "  " : "") + line);
+    } else if (line) whole.push(lines.shift());
   }
-  while (waiting.at(-1) === "") waiting.pop();
-  return [...whole, ...waiting].map((it) => `${it}\n`).join("");
+  return whole.map((it) => `${it}\n`).join("");
 }
 
 /** The words of a first line `# run WORDS`, or nothing. */

@@ -61,7 +61,7 @@ def explain():
 
 def version():
     """What the page says of itself."""
-    told = re.search(r"^## (\d+\.\d+\S*)", (TOP / "CHANGELOG.md").read_text(), re.M)
+    told = re.search(r"^## (\d+(?:\.\d+)+)", (TOP / "CHANGELOG.md").read_text(), re.M)
     return f"gvr {told[1]}." if told else ""
 
 

@@ -2,6 +2,7 @@
 import html
 import pathlib
 import re
+from typing import List, Tuple
 
 from statements import cells
 
@@ -18,33 +19,34 @@ SHOWN = {
 }
 
 
-def anchor(heading):
+def anchor(heading: str) -> str:
     """What a link to a heading names."""
     return re.sub(r"[^\w -]", "", heading.lower()).replace(" ", "-")
 
 
-def link(told, page):
+def link(told: Tuple[str, str], page: str) -> str:
     """A link: to another page that is in here, or its text alone."""
     text, target = told
     name, _, heading = target.partition("#")
-    to = re.fullmatch(r"(?:docs/)?(\w+)\.md", name)
-    to = to[1] if to else page if not name else None
+    other = re.fullmatch(r"(?:docs/)?(\w+)\.md", name)
+    to = other[1] if other else page if not name else ""
     return f'<a href="#page:{to}:{heading}">{text}</a>' if to in SHOWN else text
 
 
-def inline(text, page):
+def inline(text: str, page: str) -> str:
     """A text with its links, code, stress and weight."""
     text = html.escape(re.sub(r"!\[[^\]]*\]\([^)]*\)", "", text), quote=False)
     codes = re.findall(r"`([^`]*)`", text)
     # What stands between backticks is put aside, so that nothing in it is read as a sign.
     whole = re.sub(r"`[^`]*`", "\0", text)
-    whole = re.sub(r"\[([^\]]*)\]\(([^)\s]*)\)", lambda it: link(it.groups(), page), whole)
+    whole = re.sub(r"\[([^\]]*)\]\(([^)\s]*)\)", lambda it: link((it[1], it[2]), page), whole)
     whole = re.sub(r"\*\*([^*]+)\*\*", r"<b>\1</b>", whole)
     whole = re.sub(r"(?<![\w*])\*([^*]+)\*(?![\w*])", r"<em>\1</em>", whole)
     return re.sub("\0", lambda _: f"<code>{codes.pop(0)}</code>", whole)
 
 
-def table(lines, page):
+def table(lines: List[str], page: str) -> str:
+    """A table, with a head where it has one."""
     rows = [cells(it) for it in lines if not re.fullmatch(r"[|\- :]+", it)]
     has_head = len(rows) > 1 and any(rows[0])
     made = []
@@ -54,14 +56,14 @@ def table(lines, page):
     return f"<table>{''.join(made)}</table>"
 
 
-def listed(text, page):
+def listed(text: str, page: str) -> str:
     """The items of a list."""
     kind = "ol" if text[0].isdigit() else "ul"
     items = re.split(r"^(?:[-*]|\d+\.) ", text, flags=re.M)[1:]
     return f"<{kind}>" + "".join(f"<li>{inline(' '.join(it.split()), page)}</li>" for it in items) + f"</{kind}>"
 
 
-def block(text, page):
+def block(text: str, page: str) -> str:
     """The markup of one block of lines."""
     if head := re.match(r"(#+) (.*)$", text):
         depth = min(len(head[1]) + 1, 4)
@@ -78,7 +80,7 @@ def block(text, page):
     return f"<p>{inline(' '.join(text.split()), page)}</p>"
 
 
-def markup(name):
+def markup(name: str) -> str:
     """A page of docs/ as an article."""
     made = []
     for part in re.split(r"^(```.*\n(?:.*\n)*?```)$", (TOP / f"docs/{name}.md").read_text(), flags=re.M):
@@ -89,9 +91,9 @@ def markup(name):
     return f'<article id="page:{name}" hidden>\n' + "\n".join(it for it in made if it != "<p></p>") + "\n</article>"
 
 
-def pages():
+def pages() -> str:
     return "\n".join(markup(it) for it in SHOWN)
 
 
-def links():
+def links() -> str:
     return "\n".join(f'<a href="#page:{name}:">{text}</a>' for name, text in SHOWN.items())

@@ -1,6 +1,7 @@
 """The column of the page that has the words of the language: what LANGUAGE writes, what it does, and a text to put in."""
 import pathlib
 import re
+from typing import Any, Dict, List
 
 TOP = pathlib.Path(__file__).resolve().parent.parent.parent
 # What a click puts in; a bar ends a line. It stands for the first word of what LANGUAGE has under "Written".
@@ -86,26 +87,26 @@ EXPRESSIONS = {
 }
 
 
-def cells(line):
+def cells(line: str) -> List[str]:
     """The cells of a row of a table; a bar between backticks is none that parts two cells."""
     return [it.replace("\\|", "|").strip() for it in re.split(r"(?<!\\)\|", line.strip().strip("|"))]
 
 
-def rows(text):
+def rows(text: str) -> List[List[str]]:
     """The rows of the tables of a section, without heads and rules."""
     lines = [it for it in text.split("\n") if it.startswith("|")]
     heads = {at - 1 for at, it in enumerate(lines) if re.fullmatch(r"[|\- ]+", it)}
     return [cells(it) for at, it in enumerate(lines) if at not in heads and at - 1 not in heads]
 
 
-def plain(text):
+def plain(text: str) -> str:
     """A cell without the addresses of its links."""
     return re.sub(r"\[([^\]]*)\]\([^)]*\)", r"\1", text)
 
 
-def forms(written):
+def forms(written: str) -> Dict[str, str]:
     """The forms between backticks, each with its first word; of two with the same word the first."""
-    found = {}
+    found: Dict[str, str] = {}
     for form in re.findall(r"`([^`]*)`", written):
         word = re.sub(r"^\w+ <- ", "", form).split(" ")[0]
         if word in PUT and (" " in form or word == "try"):
@@ -113,12 +114,12 @@ def forms(written):
     return found
 
 
-def statements():
+def statements() -> List[Dict[str, Any]]:
     """The groups of the column: a title, and rows of a written form, what it does, and what a click puts in."""
     text = (TOP / "docs/LANGUAGE.md").read_text()
     parts = re.split(r"^##+ (.*)\n", text, flags=re.M)
     sections = dict(zip(parts[1::2], parts[2::2]))
-    groups = []
+    groups: List[Dict[str, Any]] = []
     for title in ["Declarations", *list(sections)[list(sections).index("Statements") + 1 : list(sections).index("Limits")]]:
         told = [(form, plain(row[1]), PUT[word]) for row in rows(sections[title]) for word, form in forms(row[0]).items()]
         groups.append({"title": title, "rows": told})
@@ -126,12 +127,17 @@ def statements():
     return [*groups, {"title": "Expressions", "rows": [(form, does, EXPRESSIONS[form]) for form, does in shown]}]
 
 
-def cures():
+def texts(cell: str) -> List[str]:
+    """What stands between backticks in a cell."""
+    return re.findall(r"`([^`]*)`", cell)
+
+
+def cures() -> List[Dict[str, Any]]:
     """What newcomers write first, by EXPLAIN: texts, the reason, since when it is none, and what to write."""
     table = (TOP / "docs/EXPLAIN.md").read_text().partition("\n## You wrote")[2].partition("\n## ")[0]
-    texts = lambda cell: [it.replace("\\|", "|") for it in re.findall(r"`([^`]*)`", cell)]
     found = []
     for row in rows(table):
         reason = re.match(r"\d+", row[1])
-        found.append({"wrote": texts(row[0]), "reason": int(reason[0]), "since": row[2], "write": texts(row[3])})
+        number = int(reason[0]) if reason else 0
+        found.append({"wrote": texts(row[0]), "reason": number, "since": row[2], "write": texts(row[3])})
     return found
