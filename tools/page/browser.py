@@ -77,6 +77,14 @@ class Browser:
             raise RuntimeError(said["exceptionDetails"].get("exception", {}).get("description", "an exception"))
         return said["result"].get("value")
 
+    def define(self, script):
+        """Runs a script of the page that has no value."""
+        self.value(f"{script}; true")
+
+    def click(self, x, y):
+        for kind in ("mouseMoved", "mousePressed", "mouseReleased"):
+            self.ask("Input.dispatchMouseEvent", type=kind, x=x, y=y, button="left", clickCount=1)
+
     def size(self, width, height):
         self.ask("Emulation.setDeviceMetricsOverride", width=width, height=height, deviceScaleFactor=1, mobile=False)
 

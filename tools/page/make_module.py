@@ -8,7 +8,7 @@ made again where all is the same. With --proved a module that is kept is taken w
 The kit's back ends for wasm64 refuse what takes memory from a Global. So the LLVM module that the kit makes of the
 library for x86-64 is taken where the kit hands it to its clang; it is given the data layout and the triple of wasm64,
 and is compiled by the same clang, with the flags that the kit has for that target. The kit's linker links it with
-heap.c."""
+heap.c, and lower.py gives it 32-bit memory, which every browser has."""
 import hashlib
 import os
 import pathlib
@@ -18,6 +18,8 @@ import subprocess
 import sys
 import tempfile
 import time
+
+from lower import lowered
 
 HERE = pathlib.Path(__file__).resolve().parent
 TOP = HERE.parent.parent
@@ -59,7 +61,7 @@ def checksum():
     """The checksum of what the module is made from: the sources of its crates, the heap, this script, the kit."""
     of = hashlib.sha256(subprocess.run(["rt", "version"], capture_output=True, check=True).stdout)
     sources = [it for crate in crates.crates_below(NAME) for it in (TOP / "crates" / crate / "src").rglob("*.rt")]
-    for file in [*sorted(sources), HERE / "heap.c", HERE / "make_module.py", TOP / "crates.txt"]:
+    for file in [*sorted(sources), *(HERE / it for it in ("heap.c", "lower.py", "make_module.py")), TOP / "crates.txt"]:
         of.update(f"{file.relative_to(TOP)}\0".encode() + hashlib.sha256(file.read_bytes()).digest())
     return of.hexdigest()[:16]
 
@@ -158,7 +160,7 @@ def make(to, uses):
         call(KIT / "toolchain/bin/llvm-ar", "rcs", room / "page.a", room / "page.o", room / "heap.o")
         linker = [KIT / "bin/rattle-link", "--target", TRIPLE, "--toolchain", KIT / "toolchain", "--stack", STACK]
         call(*linker, "-o", room / "page.wasm", room / "page.a")
-        shutil.move(room / "page.wasm", to)
+        to.write_bytes(lowered((room / "page.wasm").read_bytes()))
 
 
 def main():

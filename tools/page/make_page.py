@@ -8,17 +8,31 @@ import pathlib
 import re
 import sys
 
+import pages
+import statements
+import tour
+
 HERE = pathlib.Path(__file__).resolve().parent
 TOP = HERE.parent.parent
+# The script of the page, in this order.
+SCRIPTS = ["page", "editor", "refusal", "teach"]
+
+
+def comments(text):
+    """What the comments of an example say behind its question."""
+    lines = [it[2:] for it in text.splitlines() if it.startswith("# ") and not it.startswith("# run ")]
+    return [" ".join(lines[1:])] if lines[1:] else []
 
 
 def examples():
-    """The examples in the order of their list, by its headings, each with its question."""
-    groups = []
+    """The examples in the order of their list, by its headings, each with its question, its answer and what to change."""
+    groups, told = [], tour.chapters()
     for part in (TOP / "examples/README.md").read_text().split("\n## ")[1:]:
-        told = re.findall(r"^\| `(\w+)` \| (.*) \|$", part, re.M)
-        texts = [(TOP / f"examples/{name}.gvr").read_text() for name, _ in told]
-        those = [{"name": it, "question": asked, "text": text} for (it, asked), text in zip(told, texts)]
+        those = []
+        for name, asked in re.findall(r"^\| `(\w+)` \| (.*) \|$", part, re.M):
+            text = (TOP / f"examples/{name}.gvr").read_text()
+            chapter = told.get(name, {"answer": comments(text), "changes": []})
+            those.append({"name": name, "question": asked, "text": text, **chapter})
         groups.append({"title": part.partition("\n")[0], "examples": those})
     return [it for it in groups if it["examples"]]
 
@@ -39,13 +53,16 @@ def entry(text):
 
 
 def explain():
-    """The entries of EXPLAIN: the reasons and the statuses, by their numbers."""
-    text = (TOP / "docs/EXPLAIN.md").read_text()
-    heads = r"^### (Status )?(\d+):? (.*)\n((?:(?!##).*\n)*)"
-    found = {"reasons": {}, "statuses": {}}
-    for is_status, number, title, rest in re.findall(heads, text.partition("\n## Requests that")[0] + "\n", re.M):
-        found["statuses" if is_status else "reasons"][int(number)] = {"title": title, "parts": entry(rest)}
-    return found
+    """The entries of EXPLAIN on the reasons, by their numbers."""
+    text = (TOP / "docs/EXPLAIN.md").read_text().partition("\n## Requests that")[0] + "\n"
+    heads = r"^### (\d+):? (.*)\n((?:(?!##).*\n)*)"
+    return {int(number): {"title": title, "parts": entry(rest)} for number, title, rest in re.findall(heads, text, re.M)}
+
+
+def version():
+    """What the page says of itself."""
+    told = re.search(r"^## (\d+(?:\.\d+)+)", (TOP / "CHANGELOG.md").read_text(), re.M)
+    return f"gvr {told[1]}." if told else ""
 
 
 def words():
@@ -54,21 +71,28 @@ def words():
     return sorted(it for it in set(re.findall(r'b"(\S+)"', told)) if re.fullmatch(r"[A-Za-z]+", it))
 
 
+def packed(data):
+    return base64.b64encode(gzip.compress(data, 9, mtime=0)).decode()
+
+
 def main():
     read = lambda name: (HERE / name).read_text()
     # A text with a tag's end in it would end its element.
     told = lambda it: json.dumps(it).replace("<", "\\u003c")
-    script = read("page.js")
+    script = "".join(read(f"{it}.js") for it in SCRIPTS) + "const opened = open();\n"
     parts = {
         "STYLE": read("page.css"),
         "EXAMPLES": told(examples()),
         "EXPLAIN": told(explain()),
+        "STATEMENTS": told(statements.statements()),
+        "CURES": told(statements.cures()),
         "WORDS": told(words()),
-        "WASM": base64.b64encode(gzip.compress(pathlib.Path(sys.argv[1]).read_bytes(), 9, mtime=0)).decode(),
-        "WORKER": read("picture.js") + read("worker.js"),
+        "PAGES": packed(pages.pages().encode()),
+        "WASM": packed(pathlib.Path(sys.argv[1]).read_bytes()),
+        "WORKER": read("picture.js") + read("source.js") + read("worker.js"),
         "SCRIPT": script,
     }
-    page = read("page.html")
+    page = read("page.html").replace("PAGE_LINKS", pages.links()).replace("VERSION", version())
     for name, text in parts.items():
         if "</script" in text or page.count(f">{name}<") != 1:
             sys.exit(f"make_page: {name} has no one place, or ends its element")

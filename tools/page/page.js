@@ -1,12 +1,27 @@
 "use strict";
 const by = (id) => document.getElementById(id);
 const given = (id) => JSON.parse(by(id).textContent);
-const examples = given("examples"), explain = given("explain"), languageWords = new Set(given("words"));
+const examples = given("examples"), explain = given("explain"), cures = given("cures");
+const languageWords = new Set(given("words"));
 // How many bytes of a trace are kept; how long a text may be that is coloured, and one that a link keeps.
 const ROOM = 1 << 26, MOST_COLOURED = 200000, MOST_IN_LINK = 100000;
-const CUT = "the trace is cut, since a page keeps 64 MiB of it";
 const OPTIONS = { tick: [0, 1000], turns: [1, 10000000], moves: [1, 100000000] };
+// Where no budget is asked for, a run stops here first; "Go on" runs it with the budgets that gvr has.
+const FIRST = { turns: 20000, moves: 200000 };
 const LINE = 20, PADDING = 8;
+// What a status means here, and what one can do.
+const STATUSES = {
+  0: ["done", ""],
+  1: ["main ended by a fault", "The fault stands in the last line of the trace. A `try` with an `except` catches it."],
+  2: ["an option is out of its range", "`tick` is a number from 0 to 1000, `turns` from 1 to 10000000, `moves` from 1 to 100000000."],
+  3: ["the text is refused", ""],
+  5: ["the trace is cut", "This page keeps the first 64 MiB of a trace."],
+  6: ["the budget is spent", "The run did not end before. Its trace is whole up to there. A greater number of `turns` or `moves` " +
+    "lets it run on, if it ever ends."],
+  7: ["out of memory", "This page has 1 GiB for a run."],
+  8: ["a limit is met", "A run has at most 20000 greenlets, 100000 links, and 1000000 kills that stand at once."],
+  256: ["the page has no server", ""],
+};
 
 /** An element with this class and text, and these children. Text is never read as markup. */
 function made(name, kind, text, ...children) {
@@ -19,10 +34,6 @@ function made(name, kind, text, ...children) {
 
 // ---- the worker
 
-/** A module with a memory of 64 bits and nothing else. */
-const NEEDED = new Uint8Array([0, 97, 115, 109, 1, 0, 0, 0, 5, 3, 1, 4, 1]);
-const WANTING = "This browser has no 64-bit WebAssembly memory, which this page computes with. Chromium, Chrome and " +
-  "Edge have it from version 133 on. Without it, the program itself answers: ./gvr run";
 const source = URL.createObjectURL(new Blob([by("worker").textContent], { type: "text/javascript" }));
 let worker, ready, waiting = null, last = 0;
 
@@ -58,6 +69,7 @@ function stop() {
 async function ask(words, text, room = ROOM) {
   stop();
   await ready;
+  enable(true);
   return new Promise((go) => {
     waiting = { id: ++last, go };
     worker.postMessage({ id: last, words, text: new TextEncoder().encode(text), room });
@@ -70,45 +82,7 @@ function enable(runs) {
   by("stop").disabled = !runs;
 }
 
-// ---- the text and the options
-
-const text = by("text");
-let shownText = null;
-
-/** The text in parts, each with its kind: comments, numbers and the words of the language. */
-function coloured(lines) {
-  const parts = [];
-  for (const line of lines) {
-    if (/^ *#/.test(line)) parts.push(["comment", line]);
-    else for (const word of line.split(/( +)/)) {
-      parts.push([languageWords.has(word) ? "word" : /^-?\d+$/.test(word) ? "number" : "", word]);
-    }
-    parts.push(["", "\n"]);
-  }
-  return parts;
-}
-
-function drawText() {
-  if (text.value === shownText) return;
-  shownText = text.value;
-  by("refused").hidden = true;
-  const lines = shownText.split("\n");
-  by("numbers").textContent = lines.map((_, at) => at + 1).join("\n");
-  const isPlain = shownText.length > MOST_COLOURED;
-  by("colours").parentElement.classList.toggle("plain", isPlain);
-  if (isPlain) by("colours").textContent = `${shownText}\n`;
-  else by("colours").replaceChildren(...coloured(lines).map(([kind, it]) => (kind ? made("span", kind, it) : it)));
-}
-
-/** Marks a line of the text and brings it into sight. */
-function markLine(line) {
-  const top = PADDING + (line - 1) * LINE, editor = by("editor");
-  by("refused").style.top = `${top}px`;
-  by("refused").hidden = false;
-  if (top < editor.scrollTop || top > editor.scrollTop + editor.clientHeight - LINE) {
-    editor.scrollTop = top - editor.clientHeight / 2;
-  }
-}
+// ---- the options
 
 /** The options that stand in the controls, as words; one that is out of its range is marked and goes to the call. */
 function optionWords() {
@@ -120,26 +94,33 @@ function optionWords() {
   });
 }
 
-function setOptions(words) {
-  for (const name of Object.keys(OPTIONS)) {
-    const found = new RegExp(`--${name}[ =](\\d+)`).exec(words);
-    by(name).value = found ? found[1] : "";
-  }
-  optionWords();
+let takenWords = null;
+
+/** A first line `# run WORDS` of the text has the options: the controls show them. */
+function takeOptions() {
+  const words = firstWords(text.value);
+  if (words === takenWords) return;
+  takenWords = words;
+  for (const name of Object.keys(OPTIONS)) by(name).value = new RegExp(`--${name}[ =](\\S+)`).exec(words ?? "")?.[1] ?? "";
+  if (optionWords().length) by("more").open = true;
 }
 
-/** Takes a text as it stands in a file: a first line `# run WORDS` has its options. */
-function load(file) {
-  const words = /^# run (.*)\n/.exec(file);
-  setOptions(words ? words[1] : "");
-  text.value = file;
+/** A control that is changed changes the first line too, where the text has one. */
+function onOption() {
+  const words = optionWords().join(" ");
+  if (firstWords(text.value) === null) return;
+  const at = text.value.indexOf("\n"), rest = at < 0 ? "" : text.value.slice(at + 1);
+  takenWords = words || null;
+  text.value = words ? `# run ${words}\n${rest}` : rest;
   drawText();
-  by("editor").scrollTop = 0;
 }
+
+/** The text as it is run: a last line needs no Enter. */
+const asRun = () => (text.value === "" || text.value.endsWith("\n") ? text.value : `${text.value}\n`);
 
 /** The text as a file keeps it. */
 function asFile() {
-  const words = optionWords().join(" "), rest = text.value.replace(/^# run .*\n/, "");
+  const words = optionWords().join(" "), rest = asRun().replace(/^# run.*\n/, "");
   return words ? `# run ${words}\n${rest}` : rest;
 }
 
@@ -150,30 +131,46 @@ function tellState(state, more = "", isFault = false) {
   by("state").style.color = isFault ? "var(--red)" : "";
 }
 
-/** A paragraph of the pages, where what stands between backticks is code. */
-function paragraph(it) {
-  return made("p", "", "", ...it.split("`").map((part, at) => (at % 2 ? made("code", "", part) : part)));
-}
-
-/** The entry of EXPLAIN: paragraphs and texts. */
-function showEntry(entry) {
-  const texts = made("div", "texts");
-  const parts = entry.parts.filter(([kind]) => kind === "text").map(([, it]) => paragraph(it));
-  for (const [kind, it] of entry.parts) {
-    if (kind === "text") continue;
-    texts.append(made("figure", `is-${kind}`, "", made("figcaption", "", kind), made("pre", "", it)));
+/** Texts beside one another, each with what it is. */
+function figures(...texts) {
+  const whole = made("div", "texts");
+  for (const [kind, name, it] of texts) {
+    whole.append(made("figure", `is-${kind}`, "", made("figcaption", "", name), made("pre", "", it)));
   }
-  by("entry").replaceChildren(...parts, texts);
+  return whole;
 }
 
-function showTold(said) {
+/** What people mean who write so, and the entry of EXPLAIN: paragraphs and texts. */
+function showEntry(entry, cure) {
+  const parts = entry.parts.filter(([kind]) => kind === "text").map(([, it]) => paragraph(it));
+  const texts = figures(...entry.parts.filter(([kind]) => kind !== "text").map(([kind, it]) => [kind, kind, it]));
+  const lines = (those) => those.map((it) => it.replaceAll("|", "\n")).join("\n\n");
+  if (cure) {
+    const meant = [paragraph(`**You meant**: ${cure.since}.`.replaceAll("*", "")), figures(["refused", "you wrote", lines(cure.wrote)], ["mended", "write", lines(cure.write)])];
+    by("entry").replaceChildren(made("div", "cure", "", ...meant), ...parts, texts);
+  } else by("entry").replaceChildren(...parts, texts);
+}
+
+/** Shows the refused line with its word marked below, and what was wanted there. */
+function showWord(number, reason, refused) {
+  const lines = refused.split("\n"), line = lines[number - 1] ?? "", place = placeOf(lines, number, reason);
+  by("word").hidden = !place || line.length > 200;
+  if (place) {
+    const marks = " ".repeat(place.from) + "^".repeat(Math.max(1, place.length));
+    by("word").textContent = `${line}\n${marks}${place.wanted ? ` wanted: ${place.wanted}` : ""}`;
+  }
+  markLine(number, place);
+  return cureOf(line, reason);
+}
+
+function showTold(said, refused) {
   const place = /^gvr: line (\d+): reason (\d+): /.exec(said.err);
-  const entry = place ? explain.reasons[place[2]] : said.status === 5 ? null : explain.statuses[said.status];
-  by("told").hidden = said.err === "" && said.status === 0;
-  by("err").textContent = said.err.trimEnd();
-  by("entry").replaceChildren();
-  if (entry && said.status !== 0) showEntry(entry);
-  if (place) markLine(Number(place[1]));
+  const help = place ? "" : STATUSES[said.status][1];
+  by("told").hidden = said.err === "" && said.status === 0 || said.isFirst;
+  by("err").textContent = said.status === 2 ? "" : said.err.trimEnd();
+  by("word").hidden = true;
+  by("entry").replaceChildren(...(help ? [paragraph(help)] : []));
+  if (place) showEntry(explain[place[2]], showWord(Number(place[1]), Number(place[2]), refused));
 }
 
 function showTrace(said) {
@@ -204,12 +201,14 @@ function showPicture(svg, isTrace) {
 
 let trace = null;
 
-function show(said, words) {
-  trace = said;
-  const title = { 5: CUT, 256: "a page has no server" }[said.status] ?? explain.statuses[said.status].title;
-  const lines = said.count === 1 ? "1 line" : `${said.count} lines`;
-  tellState(`status ${said.status}: ${title}`, `${lines}, ${said.time.toFixed(1)} ms`, ![0, 1].includes(said.status));
-  showTold(said);
+function show(said, words, isFirst = false) {
+  trace = { ...said, isFirst: isFirst && said.status === 6 };
+  const lines = said.count === 1 ? "1 line" : `${said.count} lines`, time = `${said.time.toFixed(1)} ms`;
+  by("go-on").hidden = !trace.isFirst;
+  const spent = said.err.includes("turns") ? `${FIRST.turns} turns` : `${FIRST.moves} moves`;
+  if (trace.isFirst) tellState(`not ended after ${spent}`, `${lines}, ${time}; Go on has it run on, up to the usual budgets`);
+  else tellState(`status ${said.status}: ${STATUSES[said.status][0]}`, `${lines}, ${time}`, ![0, 1].includes(said.status));
+  showTold(trace, said.text ?? text.value);
   showTrace(said);
   showPicture(said.svg, words[0] === "run" && said.count > 0);
   by("keep").hidden = said.count === 0;
@@ -219,10 +218,11 @@ function show(said, words) {
 async function askWith(words) {
   optionWords();
   tellState("runs", "Stop ends it");
+  by("go-on").hidden = true;
   enable(true);
   let said;
   try {
-    said = await ask(words, text.value);
+    said = await ask(words, asRun());
   } catch (fault) {
     tellState("cannot compute", fault.message, true);
     return null;
@@ -235,22 +235,22 @@ async function askWith(words) {
   return said;
 }
 
-async function run() {
+/** Runs the text. Where no budget is asked for, it stops early at first. */
+async function run(isWhole = false) {
   drawText();
-  const words = ["run", ...optionWords()], said = await askWith(words);
-  if (said) show(said, words);
+  const asked = optionWords(), isFirst = isWhole !== true && !asked.some((it) => /^--(turns|moves)=/.test(it));
+  const budgets = isFirst ? Object.entries(FIRST).map(([name, many]) => `--${name}=${many}`) : [];
+  const words = ["run", ...asked, ...budgets], said = await askWith(words);
+  if (said) show(said, words, isFirst);
   return said;
 }
 
-/** Puts the printed form in place of the text, as one edit that can be undone. */
+/** Puts the printed form in place of the text, as one edit that can be undone. Comments stay. */
 async function format() {
-  const said = await askWith(["fmt"]);
+  const original = asRun(), said = await askWith(["fmt"]);
   if (!said) return said;
   if (said.status === 0) {
-    const printed = new TextDecoder().decode(said.out);
-    text.select();
-    if (!document.execCommand("insertText", false, printed)) text.value = printed;
-    drawText();
+    replace(0, text.value.length, withComments(new TextDecoder().decode(said.out), original));
     text.setSelectionRange(0, 0);
     tellState("formatted");
     by("told").hidden = true;
@@ -306,25 +306,87 @@ async function openFile(file) {
 
 let lit = null;
 
-/** Lights a line of the trace and its row in the picture together. */
-function light(line, isSought = false) {
-  if (line === lit && !isSought) return;
+/** Where the lines of the trace are of, by the text that was run; nothing once the text is another. */
+const sources = () => (trace?.sources ?? []);
+
+function forgetSources() {
+  if (trace) trace.sources = [];
+  by("sources").replaceChildren();
+}
+
+function unlight() {
   for (const it of document.querySelectorAll(".result .lit")) it.classList.remove("lit");
-  lit = line;
-  if (line === null) return;
+  by("sources").replaceChildren();
+}
+
+function lightRows(line, isSought) {
   for (const it of document.querySelectorAll(`.result [data-line="${line}"]`)) {
     it.classList.add("lit");
     if (isSought) it.scrollIntoView({ block: "nearest", inline: "nearest" });
   }
 }
 
+function lightText(line) {
+  const mark = made("div", "lit");
+  mark.style.top = `${PADDING + (line - 1) * LINE}px`;
+  mark.dataset.source = line;
+  by("sources").append(mark);
+}
+
+/** Brings a line of the text into sight. */
+function seek(line) {
+  const top = PADDING + (line - 1) * LINE, editor = by("editor");
+  if (top < editor.scrollTop) editor.scrollTop = top - PADDING;
+  else if (top + LINE > editor.scrollTop + editor.clientHeight) editor.scrollTop = top + 2 * LINE - editor.clientHeight;
+}
+
+/** Lights a line of the trace, its row in the picture and its line of the scenario together. */
+function light(line, isSought = false) {
+  if (line === lit && !isSought) return;
+  unlight();
+  lit = line;
+  if (line === null) return;
+  lightRows(line, isSought);
+  const of = sources()[line - 1] ?? [];
+  of.forEach(lightText);
+  if (isSought && of.length) seek(of[0]);
+}
+
+/** Lights all lines of the trace that a line of the scenario has written. */
+function lightFrom(line, isSought = false) {
+  const those = sources().flatMap((of, at) => (of.includes(line) ? [at + 1] : []));
+  unlight();
+  lit = null;
+  if (those.length === 0) return;
+  lightText(line);
+  those.forEach((it, at) => lightRows(it, isSought && at === 0));
+}
+
+/** Says which line is lit, for one who does not see it. */
+function sayLit() {
+  const of = sources()[lit - 1] ?? [];
+  by("lit").textContent = `line ${lit}: ${trace.lines[lit - 1]}${of.length ? `, of line ${of.join(" or ")} of the scenario` : ""}`;
+}
+
 const lineAt = (event) => event.target.closest?.("[data-line]")?.dataset.line ?? null;
+
+/** The line of the scenario under the mouse. */
+const textLineAt = (event) => Math.floor((event.clientY - text.getBoundingClientRect().top - PADDING) / LINE) + 1;
+
+/** The line of the scenario in which the caret is. */
+const caretLine = () => text.value.slice(0, text.selectionStart).split("\n").length;
 
 const viewButtons = () => document.querySelectorAll("button[data-view]");
 
 function setView(view) {
   by("result").dataset.view = view;
   for (const it of viewButtons()) it.ariaPressed = String(it.dataset.view === view);
+}
+
+/** The names of the lanes stay where the picture is scrolled. */
+function keepNames() {
+  const heads = document.querySelector(".picture .heads");
+  if (heads) heads.setAttribute("transform", `translate(0 ${by("result").scrollTop})`);
 }
 
 // ---- the page
@@ -341,6 +403,7 @@ function setTheme(chosen) {
 
 /** The keys: Ctrl or Command with Enter runs, Escape stops, Alt with Shift and F formats. */
 function onKey(event) {
+  if (by("pages").open) return;
   if (event.key === "Enter" && (event.ctrlKey || event.metaKey)) run();
   else if (event.key === "Escape") stop();
   else if (event.altKey && event.shiftKey && event.code === "KeyF") format();
@@ -354,34 +417,28 @@ function onTraceKey(event) {
   if (!step || !trace) return;
   event.preventDefault();
   light(String(Math.min(trace.lines.length, Math.max(1, Number(lit ?? 0) + step))), true);
+  sayLit();
 }
 
 function onExample() {
-  const found = examples.flatMap((it) => it.examples).find((it) => it.name === by("example").value);
+  const found = exampleOf(by("example").value);
   if (!found) return;
-  load(found.text);
+  load(found.text, found);
   run();
 }
 
-function listen() {
-  document.onkeydown = onKey;
-  by("trace").onkeydown = onTraceKey;
-  by("example").onchange = onExample;
-  by("run").onclick = run;
-  by("stop").onclick = stop;
-  by("format").onclick = format;
-  by("link").onclick = keepInLink;
-  by("save").onclick = () => saveAs("scenario.gvr", asFile());
-  by("keep").onclick = () => saveAs("scenario.trace", trace.out);
-  by("open").onclick = () => by("file").click();
-  by("file").onchange = () => openFile(by("file").files[0]);
-  by("theme").onclick = () => setTheme(THEMES[(THEMES.indexOf(theme) + 1) % THEMES.length]);
+/** Puts back what was loaded. */
+function onReset() {
+  load(subject ? subject.text : loaded, subject);
+  run();
+}
+
+function listenToText() {
   text.oninput = drawText;
-  for (const name of Object.keys(OPTIONS)) by(name).oninput = optionWords;
-  for (const it of viewButtons()) it.onclick = () => setView(it.dataset.view);
-  by("result").onmouseover = (event) => light(lineAt(event));
-  by("result").onmouseleave = () => light(null);
-  by("result").onclick = (event) => light(lineAt(event), true);
+  text.onkeydown = onTextKey;
+  text.onkeyup = text.onclick = () => lightFrom(caretLine(), true);
+  text.onmousemove = (event) => lightFrom(textLineAt(event));
+  text.onmouseleave = unlight;
   by("editor").ondragover = (event) => event.preventDefault();
   by("editor").ondrop = (event) => {
     event.preventDefault();
@@ -389,28 +446,66 @@ function listen() {
   };
 }
 
-async function open() {
+function listenToAnswer() {
+  by("trace").onkeydown = onTraceKey;
+  by("result").onscroll = keepNames;
+  by("result").onmouseover = (event) => light(lineAt(event));
+  by("result").onmouseleave = () => light(null);
+  by("result").onclick = (event) => light(lineAt(event), true);
+  for (const it of viewButtons()) it.onclick = () => setView(it.dataset.view);
+  by("go-on").onclick = () => run(true);
+  by("keep").onclick = () => saveAs("scenario.trace", trace.out);
+}
+
+function listen() {
+  document.onkeydown = onKey;
+  document.onclick = onPageLink;
+  by("close").onclick = () => by("pages").close();
+  by("example").onchange = onExample;
+  by("reset").onclick = onReset;
+  by("run").onclick = () => run();
+  by("stop").onclick = stop;
+  by("format").onclick = format;
+  by("link").onclick = keepInLink;
+  by("save").onclick = () => saveAs("scenario.gvr", asFile());
+  by("open").onclick = () => by("file").click();
+  by("file").onchange = () => openFile(by("file").files[0]);
+  by("theme").onclick = () => setTheme(THEMES[(THEMES.indexOf(theme) + 1) % THEMES.length]);
+  for (const name of Object.keys(OPTIONS)) by(name).oninput = onOption;
+  listenToText();
+  listenToAnswer();
+}
+
+function listExamples() {
   for (const { title, examples: those } of examples) {
     const group = made("optgroup");
     group.label = title;
-    for (const { name, question } of those) group.append(Object.assign(made("option", "", question), { value: name }));
+    for (const { name, question } of those) {
+      const option = Object.assign(made("option", "", question), { value: name });
+      option.dataset.question = question;
+      group.append(option);
+    }
     by("example").append(group);
   }
+}
+
+async function open() {
+  listExamples();
+  drawStatements();
   listen();
   setTheme("system");
   setView(innerWidth > 700 ? "both" : "lines");
-  const first = examples.flatMap((it) => it.examples).find((it) => it.name === "three_at_once");
-  const hash = location.hash.slice(1);
+  by("column").open = innerHeight > 850 && innerWidth > 900;
+  const first = exampleOf("three_at_once"), hash = location.hash.slice(1);
+  const [, name, heading] = /^page:(\w+):(.*)$/.exec(hash) ?? [];
   try {
-    load(hash ? await ofHash(hash) : first.text);
+    if (hash && !name) load(await ofHash(hash));
+    else load(first.text, first);
   } catch {
     load("");
     return tellState("the link is damaged, or was cut short", "", true);
   }
-  if (!hash) by("example").value = "three_at_once";
-  if (!WebAssembly.validate(NEEDED)) return tellState("cannot compute", WANTING, true);
+  if (name) await openPage(name, decodeURIComponent(heading));
   begin();
   await run();
 }
-
-const opened = open();

@@ -2,10 +2,10 @@
 "use strict";
 const MOST_LANES = 24, MOST_ROWS = 400;
 // Of a text that is too long the beginning is shown: beside a mark, and at the left where the loop's lines stand.
-const LONGEST = 56, LONGEST_OF_LOOP = 36;
+const LONGEST = 56, LONGEST_OF_LOOP = 28;
 const ROW = 18, TOP = 44, MARGIN = 34, CHARACTER = 7;
 // How far lanes are apart; all of them together are no wider than ALL_LANES, but for their least distance.
-const NARROWEST = 44, WIDEST = 130, ALL_LANES = 960;
+const NARROWEST = 44, WIDEST = 130, ALL_LANES = 480;
 const TRACE_LINE = new RegExp(
   "^(?:start g\\d+ \\w+|print g\\d+ .+|park g\\d+ .+|(wake|late) g\\d+|throw g\\d+ .+" +
   "|(into|end) g\\d+ (value|fault) .+|link \\d+ g\\d+ (g\\d+|mark .+|set \\w+)|job j\\d+ g\\d+ .+" +
@@ -14,16 +14,16 @@ const LOOP = ["turn", "block", "stop"];
 const GOES_ON = ["start", "wake", "late", "throw", "into"];
 // The mark of each kind of line, around the point where its row meets its lane, and what the legend says of it.
 const MARKS = {
-  start: ["<circle class='open' r='5'/>", "starts"],
-  print: ["<path class='thin' d='M-7 0H7'/>", "prints"],
-  job: ["<path class='open' d='M-5 -4H5V4H-5Z'/>", "posts a job"],
-  park: ["<path class='bar' d='M-7 0H7'/>", "waits"],
-  wake: ["<path class='wake' d='M-6 -5H6L0 5Z'/>", "goes on"],
-  into: ["<path class='into' d='M-6 -5H6L0 5Z'/>", "is switched to"],
-  late: ["<path class='late' d='M0 -6L6 0L0 6L-6 0Z'/>", "is late"],
-  throw: ["<path class='throw' d='M-5 -5L5 5M5 -5L-5 5'/>", "a fault arrives"],
-  end: ["<path class='full' d='M-5 -5H5V5H-5Z'/>", "has ended"],
-  link: ["<circle class='open' r='3'/>", "its link is called"],
+  start: ["<circle class='open' r='5'/>", "start"],
+  print: ["<path class='thin' d='M-7 0H7'/>", "print"],
+  job: ["<path class='open' d='M-5 -4H5V4H-5Z'/>", "job"],
+  park: ["<path class='bar' d='M-7 0H7'/>", "park"],
+  wake: ["<path class='wake' d='M-6 -5H6L0 5Z'/>", "wake"],
+  into: ["<path class='into' d='M-6 -5H6L0 5Z'/>", "into"],
+  late: ["<path class='late' d='M0 -6L6 0L0 6L-6 0Z'/>", "late"],
+  throw: ["<path class='throw' d='M-5 -5L5 5M5 -5L-5 5'/>", "throw"],
+  end: ["<path class='full' d='M-5 -5H5V5H-5Z'/>", "end"],
+  link: ["<circle class='open' r='3'/>", "link"],
 };
 // Each colour for light and for dark; shapes differ too, so that nothing rests on a colour.
 const COLOURS = {
@@ -43,7 +43,7 @@ const STYLE = `:root{color-scheme:light dark}
 .picture .band{fill:BAND}
 .picture .row rect{fill:transparent}
 .picture .row-block text,.picture .row-stop text{stroke:BAND}
-.picture .number{fill:SOFT;font-size:9px;text-anchor:end}
+.picture .number{fill:SOFT;text-anchor:end}
 .picture .soft{fill:SOFT}
 .picture .name,.picture .row-print .said{font-weight:bold}
 .picture .row-park .said{font-style:italic}
@@ -75,6 +75,7 @@ const escaped = (text) => text.replaceAll("&", "&amp;").replaceAll("<", "&lt;").
 const clipped = (text, most = LONGEST) => (text.length <= most ? text : text.slice(0, most - 2) + "..");
 /** The number in `g7`. */
 const named = (word) => Number(word.slice(1));
+const count = (number, what) => `${number} ${what}${number === 1 ? "" : "s"}`;
 const isTraceLine = (line) => TRACE_LINE.test(line);
 
 /** The greenlets that a line is of: the one in whose lane its mark stands, and for a link the one that is called. */
@@ -91,14 +92,7 @@ const moment = (words) => Number(words[2] === "done" ? words[4] : words[3]);
 /** What stands beside the mark of a line, or at the left where it is a line of the loop. */
 function said(words) {
   const kind = words[0], rest = words.slice(2).join(" "), end = words.slice(3).join(" ");
-  if (kind === "turn") {
-    const job = words[2] === "done" ? `: ${words[3]} ${words.slice(5).join(" ")}` : "";
-    return `turn ${words[1]} ends at ${moment(words)}${job}`;
-  }
-  if (kind === "block") {
-    return { none: "nobody can go on", jobs: "waits for a job" }[words[1]] ?? `waits until ${words[1]}`;
-  }
-  if (kind === "stop") return words.join(" ");
+  if (LOOP.includes(kind)) return words.join(" ");
   if (kind === "link") return `link ${words[1]}: ${end}`;
   if (kind === "job") return `${words[1]} ${end}`;
   if (kind === "late") return "late";
@@ -265,14 +259,15 @@ class Picture {
     const share = Math.floor(ALL_LANES / Math.max(1, this.shown.length));
     this.step = Math.max(NARROWEST, Math.min(widest, WIDEST, share));
     const ofLoop = lines.filter((words) => words[0] === "turn" || words[0] === "block");
-    this.left = MARGIN + CHARACTER * Math.min(LONGEST_OF_LOOP, longest(ofLoop, 12)) + 16;
+    this.left = MARGIN + CHARACTER * Math.min(LONGEST_OF_LOOP, longest(ofLoop, 12)) + 4;
     this.right = this.left + 150;
     this.kinds = [];
     this.under = [];
+    this.lines = lines.length;
   }
 
   x(number) {
-    return this.left + 24 + this.shown.indexOf(number) * this.step;
+    return this.left + 20 + this.shown.indexOf(number) * this.step;
   }
 
   y(row) {
@@ -290,6 +285,12 @@ class Picture {
     const of = clipped(name, Math.floor((this.step - 4) / CHARACTER));
     const inside = this.text("name", x, 17, `g${number}`) + this.text("of", x, 32, of);
     return `<g class='lane' data-lane='${number}'>${inside}</g>`;
+  }
+
+  /** The names of the lanes. They are drawn last, over what a viewer may scroll below them. */
+  heads() {
+    const ground = `<rect class='paper' width='100%' height='${TOP - 6}'/>`;
+    return `<g class='heads'>${ground}${this.shown.map((number) => this.head(number)).join("")}</g>`;
   }
 
   way(way, number, first, last) {
@@ -365,8 +366,7 @@ class Picture {
 
   svg() {
     const isShown = (...numbers) => numbers.every((it) => this.shown.includes(it));
-    const heads = this.shown.map((number) => this.head(number));
-    const rows = this.rows.map((it, row) => this.row(row, it));
+    const heads = this.heads(), rows = this.rows.map((it, row) => this.row(row, it));
     let below = TOP + this.rows.length * ROW + 22;
     if (this.leftOut.length > 0) {
       const told = `of ${this.told.lanes.size} greenlets the first ${MOST_LANES} have a lane: ` +
@@ -381,9 +381,10 @@ class Picture {
     const [legend, bottom] = this.legend(below);
     const size = `width='${this.right}' height='${bottom}'`;
     const box = `viewBox='0 0 ${this.right} ${bottom}'`;
-    const head = `<svg xmlns='http://www.w3.org/2000/svg' class='picture' role='img' ${size} ${box}>`;
+    const name = `aria-label='The trace, drawn: ${count(this.told.lanes.size, "greenlet")}, ${count(this.lines, "line")}'`;
+    const head = `<svg xmlns='http://www.w3.org/2000/svg' class='picture' role='img' ${name} ${size} ${box}>`;
     const first = [head, `<style>${style()}</style>`, `<rect class='paper' ${size}/>`];
-    return [...first, ...under, ...heads, ...ways, ...arrows, ...dots, ...rows, ...legend, "</svg>", ""].join("\n");
+    return [...first, ...under, ...ways, ...arrows, ...dots, ...rows, ...legend, heads, "</svg>", ""].join("\n");
   }
 }
 

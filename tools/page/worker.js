@@ -14,7 +14,7 @@ function call(words, text, room) {
   const given = new TextEncoder().encode(words.join("\n"));
   const errRoom = 4096, lengths = 16;
   const whole = given.length + text.length + room + errRoom + lengths + 64;
-  const at = Number(memory.grow(BigInt(Math.ceil(whole / 65536)))) * 65536;
+  const at = memory.grow(Math.ceil(whole / 65536)) * 65536;
   const textAt = at + given.length, lengthsAt = (textAt + text.length + 15) & ~15;
   const errAt = lengthsAt + lengths, outAt = errAt + errRoom;
   new Uint8Array(memory.buffer, at, given.length).set(given);
@@ -45,6 +45,16 @@ function pictureOf(out) {
   return count > 0 && count <= MOST_DRAWN && lines.every(isTraceLine) ? drawTrace(lines) : "";
 }
 
+/** Which lines of the scenario the lines are of; nothing where a function is too long to be followed. */
+function sourcesIn(text, lines) {
+  try {
+    return sourcesOf(new TextDecoder().decode(text), lines);
+  } catch (fault) {
+    if (fault instanceof RangeError) return [];
+    throw fault;
+  }
+}
+
 onmessage = async ({ data }) => {
   if (data.base64) {
     try {
@@ -59,8 +69,9 @@ onmessage = async ({ data }) => {
     const began = performance.now();
     const said = call(data.words, data.text, data.room);
     const time = performance.now() - began;
-    const svg = data.words[0] === "run" ? pictureOf(said.out) : "";
-    postMessage({ id: data.id, ...said, time, svg, ...linesOf(said.out, MOST_LINES) }, [said.out.buffer]);
+    const shown = linesOf(said.out, MOST_LINES), isRun = data.words[0] === "run";
+    const more = isRun ? { svg: pictureOf(said.out), sources: sourcesIn(data.text, shown.lines) } : { svg: "", sources: [] };
+    postMessage({ id: data.id, ...said, time, ...more, ...shown }, [said.out.buffer]);
   } catch (fault) {
     postMessage({ id: data.id, fault: String(fault) });
   }
