@@ -257,7 +257,7 @@ no_timer places clients ts key tied vacant h =
 
 -- what holds of the deadline of each timer holds of that of each client
 pub listed_deadline : {T : Type 0} (P : ℕ → Type 0) (h : Inside T) (k : ℕ) (client : Client T) → IsSound h → All (λ (t : Timer). P t.deadline) h.timers.timers
-    → IsListed {T} (record { places = h.places.slots; clients = h.clients; members = h.members; limit = h.limit }) k (Some client) → P client.deadline
+    → IsListed (record { places = h.places.slots; clients = h.clients; members = h.members; limit = h.limit }) k (Some client) → P client.deadline
 listed_deadline {T} P h k client sound each listed =
     let found = contains_item listed.0 h.timers.timers (sound.timed k listed.0 listed.1) in
     let t = All-contains (IsTied h.places.slots h.clients) h.timers.timers found.0 sound.tied found.1 in

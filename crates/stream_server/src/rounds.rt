@@ -1,5 +1,5 @@
 //! The server's loop.
-ghost use Rattle.std.specs.Prelude.{◌≡◌, ◌≢◌, ◌⊎◌, ℕ, ◌+◌, ◌<◌, ◌≤◌, Some, None, Ok, Err, true, false, [], Option, length, min, IsSome, OnOk, OnErr, IfOk, IfSome};
+ghost use Rattle.std.specs.Prelude.{◌≡◌, ◌≢◌, ℕ, ◌+◌, ◌<◌, ◌≤◌, Some, None, Ok, Err, true, false, [], Option, length, min, IsSome, OnOk, OnErr, IfOk, IfSome};
 ghost use Rattle.std.specs.List.{All};
 ghost use Rattle.gv_values.specs.Counts.{HasRisen};
 ghost use Rattle.stream_net.specs.Net.{IsFresh, IsLive};
@@ -325,10 +325,12 @@ fn until<T: Drop, W, V: Service<T, W>, N: Net>(
     table: &ClientTable<T>,
 ) -> Option<u64>
     ensures ends { 0 < client_count table.now → IsSome result }
-    ensures soon { IfSome result (λ at. EachDeadline (λ deadline. (at ≤ deadline) ⊎ (at ≤ (N.meaning net.now).moment + 1)) table.now) }
+    ensures soon { IfSome result (λ at. EachDeadline (λ deadline. at ≤ deadline) table.now) }
 {
     // Where a reply is waited for, a client is listed.
-    let least = table.least()?;
+    let Some(least) = table.least() else {
+        return None;
+    };
     if service.is_idle() {
         return Some(least);
     }
@@ -435,8 +437,9 @@ fn turn<T: Drop, W, V: Service<T, W>, N: Net, H: Wait>(
 /// it.
 ///
 /// While a reply is waited for, the service is polled and the net waited for by turns, until the service says each
-/// time. After every end but `Finished` the connections that are open stay open. Nothing is promised of a net that never answers, of the
-/// order in which connections are served, or of one that always has more to read: it is read as long as it gives bytes.
+/// time. After every end but `Finished` the connections that are open stay open. Nothing is promised of a net that never
+/// answers, of the order in which connections are served, or of one that always has more to read: it is read as long as
+/// it gives bytes.
 pub fn serve_on<T: Drop, W, V: Service<T, W>, N: Net, H: Wait>(
     rt: &H,
     alloc: Global,

@@ -41,9 +41,9 @@ loop-client-preserved g c =
       past = omega (arith, was.past, rises);
     }
 
-not_due : (moment now deadline : ℕ) → now ≡ min moment (NEVER - 1) → now < deadline → deadline < NEVER → moment < deadline
-not_due moment now deadline is late fits = omega (arith, is, late, fits)
+not_due : (moment read now deadline : ℕ) → read ≡ moment → now ≡ min read (NEVER - 1) → now < deadline → deadline < NEVER → moment < deadline
+not_due moment read now deadline same is late fits = omega (arith, same, is, late, fits)
 
 pub returns-clause-closed : goal.returns-clause-closed
-returns-clause-closed g c = λ k client listed fits. not_due _ c.min-now.result client.deadline c.min-now.ensures
+returns-clause-closed g c = λ k client listed fits. not_due (g.N.Net.meaning c.args.net.now).moment c.now.result c.min-now.result client.deadline c.now.ensures c.min-now.ensures
     (c.in_default.ensures.none k client (subst (λ s. IsListed s k (Some client)) c.in_default.ensures.same listed)) fits
