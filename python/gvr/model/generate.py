@@ -170,6 +170,17 @@ VOCABULARY = (*sorted(WORDS), *CLASSES, *BINARY, *NUMBERS, "<-", "main", "w0", "
               "9223372036854775808", "1000000001", "65", "a" * 24, "a" * 25, "X", "x-y", "_a", "{}", "\"a\"", "profile", "#")
 
 
+ODD_NUMBERS = ("-1", "-0", "00", "05", "1e3", "65", "257", "10001", "1000001", "1000000001", "9223372036854775808",
+               "-9223372036854775809", "99999999999999999999999")
+# Lines that may come in, some of them past a limit.
+COMING = (
+    ["end"], ["else"], ["finally"], ["except any f"], ["profile 2"], [""], ["  # x"], ["event e2"], ["event e"], ["sem main 1"],
+    ["def w0", "end"], ["def main x", "end"], ["rawdef r9 a b", "end"], ["rawdef r9 a", "sleep 5", "end"],
+    ["def w9 a a", "end"], ["timeout 5"] * 9 + ["end"] * 9, ["timeout 5"] * 8 + ["end"] * 8, ["if true"] * 31 + ["end"] * 31,
+    ["if true"] * 33 + ["end"] * 33, [f"let a{n} 1" for n in range(66)], [f"event a{n}" for n in range(258)],
+    ["def w9 " + " ".join(f"a{n}" for n in range(17)), "end"], ["spawn w0 1 2"], ["set main"], ["let main 1"], ["print nobody"])
+
+
 def mutated(text: str, chance: random.Random) -> bytes:
     """The text with one change, or a few."""
     lines = text.split("\n")[:-1]
@@ -196,8 +207,8 @@ def change_lines(lines: List[str], chance: random.Random) -> None:
     elif share < 0.25:
         other = chance.randrange(len(lines))
         lines[at], lines[other] = lines[other], lines[at]
-    elif share < 0.3:
-        lines.insert(at, chance.choice(("end", "else", "finally", "except any f", "profile 2", "", "  # x", "event e2")))
+    elif share < 0.35:
+        lines[at:at] = chance.choice(COMING)
     else:
         lines[at] = changed_line(lines[at], chance)
 
@@ -207,7 +218,10 @@ def changed_line(line: str, chance: random.Random) -> str:
     words = line.strip(" ").split(" ")
     at = chance.randrange(len(words))
     share = chance.random()
-    if share < 0.2:
+    numbers = [place for place, word in enumerate(words) if word.lstrip("-").isdigit()]
+    if numbers and chance.random() < 0.3:
+        words[chance.choice(numbers)] = chance.choice(ODD_NUMBERS)
+    elif share < 0.2:
         del words[at]
     elif share < 0.65:
         words[at] = chance.choice(VOCABULARY)
