@@ -126,7 +126,7 @@ class Group(Thing, _Mapping):
         greenlet._started = True
         self._all[greenlet] = None
 
-    def add(self, greenlet: Greenlet, *args: Any, **kwargs: Any) -> None:
+    def add(self, greenlet: Greenlet) -> None:
         alive = self._alive()
         if greenlet.number is None:
             self.start(greenlet)
