@@ -147,7 +147,7 @@ class Greenlet(greenlet):
 
     def _link(self, word: str, callback: Callable[[Any], Any]) -> None:
         number, current = self._made(), session()
-        body = current.record.function(name_of(callback), 'g%d' % number)
+        body = current.record.link_function(name_of(callback), number)
         caller = Greenlet(callback, self)
         caller._started = True
         current.by_body[body] = Task(body, caller._life, caller)
