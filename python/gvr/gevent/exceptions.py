@@ -15,5 +15,5 @@ class InvalidThreadUseError(RuntimeError):
     pass
 
 
-class HubDestroyed(GreenletExit):
+class HubDestroyed(GreenletExit):                # type: ignore[misc]
     pass

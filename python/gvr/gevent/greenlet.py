@@ -19,7 +19,7 @@ class Greenlet(greenlet):
     def __init__(self, run: Optional[Callable[..., Any]] = None, *args: Any, **kwargs: Any) -> None:
         self.number, self.args, self.kwargs = None, args, kwargs
         if run is not None:
-            self._run = run
+            vars(self)['_run'] = run
         self._links: List[Tuple[Callable[[Any], Any], int]] = []
         self._started = False
         self._serial = next(Session.current.serials if Session.current is not None else _serials)
@@ -147,7 +147,7 @@ class Greenlet(greenlet):
 
     def _link(self, word: str, callback: Callable[[Any], Any]) -> None:
         number, current = self._made(), session()
-        body = current.record.function(name_of(callback), 'g%d' % number)
+        body = current.record.link_function(name_of(callback), number)
         caller = Greenlet(callback, self)
         caller._started = True
         current.by_body[body] = Task(body, caller._life, caller)

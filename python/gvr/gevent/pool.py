@@ -67,29 +67,53 @@ class _Mapping:
     def _imap(self, func: Callable[..., Any], calls: Iterable[Tuple[Any, ...]], in_order: bool,
               maxsize: Optional[int]) -> Iterator[Any]:
         from .queue import Queue
-        done, fed = Queue(maxsize), []           # type: Queue, List[Greenlet]
+        done = Queue(maxsize)
 
         def feed() -> None:
+            count = 0
             for args in calls:
                 g = self.spawn(func, *args)
+                count += 1
                 if in_order:
                     done.put(g)
                 else:
                     g.link(done.put)
-                fed.append(g)
-            if not in_order:
-                joinall(fed)
-            done.put(None)
+            done.put(_Count(count))
         Greenlet.spawn(feed)
-        return _results(done)
+        return _Results(done)
 
 
-def _results(done: Any) -> Iterator[Any]:
-    while True:
-        g = done.get()
-        if g is None:
-            return
-        yield g.get()
+class _Count:
+    """How many results there are, at last."""
+
+    def __init__(self, count: int) -> None:
+        self.count = count
+
+    def __repr__(self) -> str:
+        return 'the count %d' % self.count
+
+
+class _Results:
+    """The results of an imap, one by one."""
+
+    def __init__(self, done: Any) -> None:
+        self._done, self._got = done, 0
+        self._count: Optional[int] = None
+
+    def __iter__(self) -> '_Results':
+        return self
+
+    def __next__(self) -> Any:
+        while self._got != self._count:
+            g = self._done.get()
+            if isinstance(g, _Count):
+                self._count = g.count
+            else:
+                self._got += 1
+                return g.get()
+        raise StopIteration
+
+    next = __next__
 
 
 class Group(Thing, _Mapping):
@@ -126,7 +150,7 @@ class Group(Thing, _Mapping):
         greenlet._started = True
         self._all[greenlet] = None
 
-    def add(self, greenlet: Greenlet, *args: Any, **kwargs: Any) -> None:
+    def add(self, greenlet: Greenlet) -> None:
         alive = self._alive()
         if greenlet.number is None:
             self.start(greenlet)
@@ -216,7 +240,7 @@ class Group(Thing, _Mapping):
         current = session()
         function = current.record.map_function(name_of(func), len(items))
         made = []
-        for body, item in zip(function.bodies, items):
+        for body, item in zip(function.choices.values(), items):
             g = Greenlet(func, item)
             g._started = True
             made.append(g)

@@ -26,7 +26,7 @@ def need(record: Record, body: Body, statement: Statement) -> None:
 
 def _have(record: Record, body: Body, number: int, before: Optional[Statement]) -> None:
     """At the end of the body, or before one of its statements."""
-    if number == body.number or body.parameter == 'g%d' % number:
+    if number in (body.number, body.holds):
         return
     maker = record.maker.get(number)
     if maker is body:

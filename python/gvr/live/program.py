@@ -21,6 +21,9 @@ WHY = {'socket': 'sockets', '_socket3': 'sockets', 'ssl': 'sockets', 'server': '
        'backdoor': 'servers', 'core': 'loops', 'libev': 'loops', 'libuv': 'loops', 'events': 'loops'}
 
 
+FINDERS: List[Any] = sys.meta_path
+
+
 class NotSaid:
     """`import gevent.socket` says why there is none."""
 
@@ -37,8 +40,8 @@ def alias() -> Dict[str, Any]:
               if name in ('gevent', 'greenlet') or name.startswith('gevent.')}
     for name in before:
         del sys.modules[name]
-    if NotSaid not in sys.meta_path:
-        sys.meta_path.insert(0, NotSaid)
+    if NotSaid not in FINDERS:
+        FINDERS.insert(0, NotSaid)
     sys.modules['gevent'] = importlib.import_module('gvr.gevent')
     for part in PARTS:
         sys.modules['gevent.' + part] = importlib.import_module('gvr.gevent.' + part)
@@ -51,8 +54,8 @@ def unalias(before: Dict[str, Any]) -> None:
     for name in [n for n in sys.modules if n in ('gevent', 'greenlet') or n.startswith('gevent.')]:
         del sys.modules[name]
     sys.modules.update(before)
-    if NotSaid in sys.meta_path:
-        sys.meta_path.remove(NotSaid)   
+    if NotSaid in FINDERS:
+        FINDERS.remove(NotSaid)
 
 
 class Program(NamedTuple):
@@ -81,11 +84,12 @@ def run_program(program: Program) -> Tuple[Session, Outcome]:
     random.seed(program.seed)
     sys.argv = [program.path, *program.arguments]
     sys.path.insert(0, os.path.dirname(os.path.abspath(program.path)))
-    old, builtins.print = builtins.print, printer if program.prints else builtins.print
+    if program.prints:
+        setattr(builtins, 'print', printer)
     try:
         return run, run.run(lambda: exec(code, names))
     finally:
-        builtins.print = old
+        setattr(builtins, 'print', printer.real)
         sys.path.pop(0)
         monkey.restore()
         unalias(before)

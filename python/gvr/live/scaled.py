@@ -3,7 +3,7 @@ time between two of its moments. GEVENT_LOOP=gvr.live.scaled.Loop chooses it."""
 import os
 from typing import Any
 
-from gevent.libev.corecext import loop           # type: ignore[import]
+from gevent.libev.corecext import loop
 
 SCALE = float(os.environ.get('GVR_SCALE', '1'))
 

@@ -79,11 +79,14 @@ class _Speller:
             self.say('result handles_%d' % which)
 
     def several(self, function: Bodies) -> None:
-        self.say('def %s i' % function.name)
-        for number, body in enumerate(function.bodies):
+        self.say('def %s %s' % (function.name, function.parameter))
+        for choice, body in function.choices.items():
             self.pad = '  '
-            self.say('if == i %d' % number)
+            chosen = choice if body.holds is None else self.listed(body.holds, {})
+            self.say('if == %s %s' % (function.parameter, chosen))
             self.body(body, '    ')
+            if body.holds is not None and body.ended and body.final is None and not body.through:
+                self.say('return none')                  # the handles of the others need not be there yet
             self.pad = '  '
             self.say('end')
         self.pad = ''
@@ -122,7 +125,7 @@ class _Speller:
         """The value that a body begins with."""
         if body.raw:
             return 'at p 0' if body.wanted else 'p'
-        return 'i' if body.parameter == 'i' else 'none'
+        return body.parameter if body.parameter in ('i', 'p') else 'none'
 
     # ---------------------------------------------------------------- statements
 
@@ -240,8 +243,14 @@ class _Speller:
     def handle(self, body: Body, number: int, lists: Dict[int, str]) -> str:
         if number == body.number:
             return 'self'
-        if number not in self.at or body.raw or body.parameter == 'g%d' % number:
+        if number == body.holds and body.parameter is not None:
+            return body.parameter
+        if number not in self.at or body.raw:
             return 'g%d' % number
+        return self.listed(number, lists)
+
+    def listed(self, number: int, lists: Dict[int, str]) -> str:
+        """A handle of a list, which is got where it is not in a local name by now."""
         which, place = self.at[number]
         if which not in lists:
             lists[which] = 'l%d' % len(lists)

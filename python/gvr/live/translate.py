@@ -85,8 +85,8 @@ class Translator:
         """The exception that a fault of the machine is."""
         made: BaseException
         if text.startswith('Error('):
-            made = self.codes.entries[int(text[6:-1])]
-            return made
+            kept: BaseException = self.codes.entries[int(text[6:-1])]
+            return kept
         if text.startswith('Timeout('):
             made = self.timer(int(text[8:-1])).thrown()
         else:
@@ -96,7 +96,8 @@ class Translator:
             made = kind(message) if message else kind()
         if not isinstance(made, GreenletExit) or statement is not None:
             self._known[id(made)] = Known(made, text, statement, body)
-        return made
+        found: BaseException = made
+        return found
 
     def opened(self, timer: Timer) -> None:
         """The machine draws the next number for a Timeout of the program."""

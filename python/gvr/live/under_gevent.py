@@ -86,7 +86,8 @@ def rules_that_explain(command: Sequence[str], theirs: Output) -> Optional[Seque
 
     def agrees(rules: FrozenSet[str]) -> bool:
         return under_gvr(command, sorted(rules)).output == theirs
-    return explain(agrees)
+    found: Optional[Sequence[str]] = explain(agrees)
+    return found
 
 
 def lines_of_difference(ran: Ran, theirs: Output) -> List[str]:

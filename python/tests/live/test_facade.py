@@ -142,6 +142,23 @@ class Facade(unittest.TestCase):
             gevent.sleep(0)
         self.says(main, True, 'value', False)
 
+    def test_more_links_than_the_language_has_functions(self) -> None:
+        def main(say: Say) -> None:
+            ended: List[int] = []
+
+            def f(n: int) -> int:
+                gevent.sleep((n * 7 % 10) / 1000)
+                return n
+            gs = [gevent.spawn(f, n) for n in range(150)]
+            for g in gs:
+                g.link(lambda g: ended.append(g.value))
+                g.link(lambda g: ended.append(g.value))
+            gevent.joinall(gs)
+            gevent.sleep(0)
+            say((len(ended), sorted(ended)[::2] == list(range(150))))
+            say(sum(pool.Group().imap_unordered(f, range(80))))
+        self.says(main, (300, True), 3160, again=False)
+
     def test_rawlinks_of_events_and_results(self) -> None:
         def main(say: Say) -> None:
             e, r, s = event.Event(), event.AsyncResult(), lock.Semaphore(0)
