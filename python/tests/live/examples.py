@@ -116,22 +116,19 @@ def differences(name: str, ran: Ran) -> List[str]:
     return told
 
 
-def under_gevent(name: str, scale: int = 4) -> str:
-    """What the program writes under gevent itself, whose timers take so many times as long."""
-    more = environment(GEVENT_LOOP="scaled.Loop", GVR_SCALE=str(scale))
-    more["PYTHONPATH"] = str(pathlib.Path(__file__).resolve().parent)
-    ended = subprocess.run([sys.executable, f"{name}.py"], cwd=LIVE, env=more, capture_output=True, text=True, timeout=600, check=False)
-    return ended.stdout
+def compare_with_gevent(chosen: List[str], runs: int, scale: int = 4) -> List[str]:
+    """A line for each program: in how many runs of gevent itself, whose timers take so many times as long, it wrote what
+    stands beside it."""
+    sys.path[:0] = [str(TOP / "python")]
+    from gvr.live.under_gevent import under_gevent
 
-
-def compare_with_gevent(chosen: List[str], runs: int) -> List[str]:
-    """A line for each program: in how many runs of gevent it wrote what stands beside it."""
-    asked = [(name, number) for name in chosen for number in range(runs)]
-    with ThreadPoolExecutor(2) as lanes:
-        came = list(lanes.map(lambda it: (it[0], under_gevent(it[0])), asked))
-    wanted = {name: (LIVE / f"{name}.out").read_text() for name in chosen}
-    same = {name: sum(output == wanted[name] for it, output in came if it == name) for name in chosen}
-    return [f"{name}: the same in {same[name]} of {runs} runs" for name in chosen]
+    told = []
+    for name in chosen:
+        with ThreadPoolExecutor(runs) as lanes:
+            came = list(lanes.map(lambda _: under_gevent([str(LIVE / f"{name}.py")], scale)[0], range(runs)))
+        same = came.count(tuple((LIVE / f"{name}.out").read_text().splitlines()))
+        told.append(f"{name}: the same in {same} of {runs} runs")
+    return told
 
 
 def write(chosen: List[str]) -> None:
