@@ -2,7 +2,7 @@
 
 tools/check_live [NAME..]             runs them once more, and compares
 tools/check_live --write [NAME..]     writes record and trace beside each (the outputs are written by hand)
-tools/check_live --gevent N [NAME..]  runs each N times under gevent itself, with timers four times as long
+tools/check_live --gevent N [NAME..]  runs each N times under gevent itself in real time, with timers four times as long
 """
 import os
 import pathlib
@@ -114,6 +114,20 @@ def differences(name: str, ran: Ran) -> List[str]:
     if PROGRAM.is_file() and CERTIFIED not in ran.said:
         told.append(f"examples/live/{name}.py: the run is not certified: {ran.said.strip()[-300:]}")
     return told
+
+
+def in_virtual_time(chosen: List[str]) -> "dict[str, str]":
+    """What each of these programs writes under gevent itself, over a loop with a virtual clock. One that polls needs time
+    to pass while it does: there each callback of the loop takes some."""
+
+    def output(name: str) -> str:
+        ticks = (LIVE / f"{name}.py").read_text().startswith("# run --tick")
+        more = environment(GEVENT_LOOP="gvr.beside.adapters.virtual_loop.VirtualLoop", VIRTUAL_LOOP_COST="0.00001" if ticks else "0")
+        ended = subprocess.run([sys.executable, f"{name}.py"], cwd=LIVE, env=more, capture_output=True, text=True, timeout=60, check=False)
+        return ended.stdout
+
+    with ThreadPoolExecutor(LANES) as lanes:
+        return dict(zip(chosen, lanes.map(output, chosen)))
 
 
 def compare_with_gevent(chosen: List[str], runs: int, scale: int = 4) -> List[str]:
