@@ -33,10 +33,11 @@ def pytest_configure(config: Any) -> None:
         import gvr.testing  # noqa: F401
 
 
-@pytest.hookimpl(tryfirst=True)
+@pytest.hookimpl(tryfirst=True)  # type: ignore[misc]
 def pytest_runtest_call(item: Any) -> None:
     """What is called of a test is a run, where all tests are or this one is marked."""
-    marker, test = item.get_closest_marker("gvr"), getattr(item, "obj", None)
+    marker = item.get_closest_marker("gvr")
+    test: Any = getattr(item, "obj", None)
     is_run = marker is not None or item.config.getoption("gvr")
     if not is_run or not callable(test) or inspect.iscoroutinefunction(test):
         return
@@ -51,7 +52,7 @@ def pytest_runtest_call(item: Any) -> None:
     item.obj = called
 
 
-@pytest.hookimpl(hookwrapper=True)
+@pytest.hookimpl(hookwrapper=True)  # type: ignore[misc]
 def pytest_runtest_makereport(item: Any, call: Any) -> Generator[None, Any, None]:
     """The report of the run stands as a section of the test's."""
     made = yield

@@ -20,7 +20,7 @@ import re
 import sys
 import unittest
 from types import TracebackType
-from typing import Any, Callable, List, NamedTuple, Optional, Tuple, TypeVar, Union
+from typing import Any, Callable, List, NamedTuple, Optional, Tuple, TypeVar, Union, overload
 
 from .gevent import monkey
 from .live import clock, decider, waits
@@ -78,7 +78,15 @@ class Report(NamedTuple):
 # Running
 
 
-def virtual(test: Optional[Test] = None, **options: int) -> Any:
+@overload
+def virtual(test: Test) -> Test: ...
+
+
+@overload
+def virtual(*, seed: int = 0, tick: int = 0, turns: int = 1000000, moves: int = 10000000) -> Callable[[Test], Test]: ...
+
+
+def virtual(test: Any = None, **options: int) -> Any:
     """The test as a run of its own: a function, a method, or a class, of which it takes the methods that begin with
     `test`. Options are those of `Options`: `@virtual(tick=1)`."""
     chosen = Options(**options)

@@ -2,7 +2,7 @@
 
 tools/check_live [NAME..]             runs them once more, and compares
 tools/check_live --write [NAME..]     writes record and trace beside each (the outputs are written by hand)
-tools/check_live --gevent N [NAME..]  runs each N times under gevent itself, with timers four times as long
+tools/check_live --gevent N [NAME..]  runs each N times under gevent itself in real time, with timers four times as long
 """
 import os
 import pathlib
@@ -116,22 +116,33 @@ def differences(name: str, ran: Ran) -> List[str]:
     return told
 
 
-def under_gevent(name: str, scale: int = 4) -> str:
-    """What the program writes under gevent itself, whose timers take so many times as long."""
-    more = environment(GEVENT_LOOP="scaled.Loop", GVR_SCALE=str(scale))
-    more["PYTHONPATH"] = str(pathlib.Path(__file__).resolve().parent)
-    ended = subprocess.run([sys.executable, f"{name}.py"], cwd=LIVE, env=more, capture_output=True, text=True, timeout=600, check=False)
-    return ended.stdout
+def in_virtual_time(chosen: List[str]) -> "dict[str, str]":
+    """What each of these programs writes under gevent itself, over a loop with a virtual clock. One that polls needs time
+    to pass while it does: there each callback of the loop takes some."""
+
+    def output(name: str) -> str:
+        ticks = (LIVE / f"{name}.py").read_text().startswith("# run --tick")
+        more = environment(GEVENT_LOOP="gvr.beside.adapters.virtual_loop.VirtualLoop", VIRTUAL_LOOP_COST="0.00001" if ticks else "0")
+        ended = subprocess.run([sys.executable, f"{name}.py"], cwd=LIVE, env=more, capture_output=True, text=True, timeout=60, check=False)
+        return ended.stdout
+
+    with ThreadPoolExecutor(LANES) as lanes:
+        return dict(zip(chosen, lanes.map(output, chosen)))
 
 
-def compare_with_gevent(chosen: List[str], runs: int) -> List[str]:
-    """A line for each program: in how many runs of gevent it wrote what stands beside it."""
-    asked = [(name, number) for name in chosen for number in range(runs)]
-    with ThreadPoolExecutor(2) as lanes:
-        came = list(lanes.map(lambda it: (it[0], under_gevent(it[0])), asked))
-    wanted = {name: (LIVE / f"{name}.out").read_text() for name in chosen}
-    same = {name: sum(output == wanted[name] for it, output in came if it == name) for name in chosen}
-    return [f"{name}: the same in {same[name]} of {runs} runs" for name in chosen]
+def compare_with_gevent(chosen: List[str], runs: int, scale: int = 4) -> List[str]:
+    """A line for each program: in how many runs of gevent itself, whose timers take so many times as long, it wrote what
+    stands beside it."""
+    sys.path[:0] = [str(TOP / "python")]
+    from gvr.live.under_gevent import under_gevent
+
+    told = []
+    for name in chosen:
+        with ThreadPoolExecutor(runs) as lanes:
+            came = list(lanes.map(lambda _: under_gevent([str(LIVE / f"{name}.py")], scale)[0], range(runs)))
+        same = came.count(tuple((LIVE / f"{name}.out").read_text().splitlines()))
+        told.append(f"{name}: the same in {same} of {runs} runs")
+    return told
 
 
 def write(chosen: List[str]) -> None:

@@ -6,7 +6,11 @@ from typing import Dict, List
 
 import examples
 
-HAS_GREENLET = importlib.util.find_spec("greenlet") is not None
+HAS_GREENLET, HAS_GEVENT = (importlib.util.find_spec(name) is not None for name in ("greenlet", "gevent"))
+# What gevent decides otherwise, by rules that docs/FROM_GEVENT.md has.
+DIFFER = {"hot_lock", "pool_map", "two_kill_each_other"}
+# Its moments are those of the clock on the wall.
+BY_THE_CLOCK = {"heartbeat"}
 
 
 def rows(page: str) -> Dict[str, List[str]]:
@@ -58,6 +62,19 @@ class Programs(unittest.TestCase):
                 if not record.startswith("# run "):
                     lines = trace.count("\n")
                     self.assertEqual(examples.verify(record, trace)[:2], (0, f"verified lines {lines}\n"))
+
+
+@unittest.skipUnless(HAS_GEVENT, "needs gevent, Debian's python3-gevent")
+class UnderGevent(unittest.TestCase):
+    def test_gevent_itself_writes_the_same_in_virtual_time(self) -> None:
+        chosen = [name for name in examples.names() if name not in BY_THE_CLOCK]
+        came = examples.in_virtual_time(chosen)
+        same = {name for name in chosen if came[name] == (examples.LIVE / f"{name}.out").read_text()}
+        self.assertEqual(set(chosen) - same, DIFFER)
+
+    def test_the_index_says_where_gevent_differs(self) -> None:
+        told = rows((examples.LIVE / "README.md").read_text())
+        self.assertEqual({name for name, cells in told.items() if cells[1].startswith("differs")}, DIFFER)
 
 
 class Patterns(unittest.TestCase):

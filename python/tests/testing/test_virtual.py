@@ -263,7 +263,8 @@ class Ordering(unittest.TestCase):
             waiter = gevent.spawn(holds, 0.01)
             waiter.join()
             named = {"slow": self.slow, "quick": self.quick, "waiter": waiter, "lock": lock}
-            testing.assert_order(*(it if isinstance(it, str) else tuple(named.get(part, part) for part in it) for it in wanted))
+            lines: List[Any] = [it if isinstance(it, str) else tuple(named.get(part, part) for part in it) for it in wanted]
+            testing.assert_order(*lines)
 
         testing.run(main)
 
