@@ -7,10 +7,11 @@ import sys
 from typing import Any, Callable, Dict, FrozenSet, List, Optional, Sequence, Tuple
 
 from .as_python import NotWritten, program
-from .compare import Task, close_sides, sides_of, verdict
+from .compare import Part, Task, close_sides, sides_of, verdicts
 from .events import LEVELS, Difference, Event, is_compared, outcome, views, void
+from .generate import WIDE
 from .hunt import Found, Hunt, Progress, cluster, parts, processes, tell_error, write
-from .rules import explain, meaning, names, sets
+from .rules import add_rules, explain, meaning, names, sets
 from .sides import ADAPTERS, Limits, Trouble, adapter_words, checked
 from .tree import tree
 
@@ -39,12 +40,15 @@ def parser() -> argparse.ArgumentParser:
     p.add_argument('--intended', default='', metavar='RULES',
                    help='rules, or the name of an adapter for all of its: what they explain is no difference')
     p.add_argument('--rules', metavar='RULES', help="rules that may explain a difference (the adapter's)")
+    p.add_argument('--more-rules', default='', metavar='MODULES',
+                   help='modules with rules of your own, each in a list RULES: docs/BESIDE.md')
     p.add_argument('--gvr', metavar='PATH', help='the gvr program in place of the model; no rules then')
     p.add_argument('--turns', type=int, default=Limits().turns)
     p.add_argument('--moves', type=int, default=Limits().moves)
     p.add_argument('--tick', type=int, default=0)
     hunting = p.add_argument_group('hunt')
     hunting.add_argument('--profile', choices=('short', 'collide', 'wide', 'raw'), default='collide')
+    hunting.add_argument('--themes', default='', metavar='THEMES', help='what the scenarios are about: sem, queue kinds, ..')
     hunting.add_argument('--zero', action='store_true', help='waits of 0 ms too')
     hunting.add_argument('--from', dest='low', type=int, default=0, metavar='SEED')
     hunting.add_argument('--to', dest='high', type=int, default=200, metavar='SEED')
@@ -80,7 +84,13 @@ def task_of(given: argparse.Namespace) -> Task:
     rules = given.rules if given.rules is not None else given.adapter if given.adapter in sets() else 'gevent'
     limits = Limits(given.turns, given.moves, given.tick)
     words = tuple(adapter_words(given.adapter, options))
-    return Task(words, rules_named(rules), frozenset(rules_named(given.intended)), limits, given.gvr)
+    modules = tuple(word for word in given.more_rules.split(',') if word)
+    try:
+        more = tuple(name for module in modules for name in add_rules(module))
+    except (ImportError, AttributeError) as error:
+        raise Trouble('--more-rules: %s' % error) from None
+    intended = frozenset(rules_named(given.intended))
+    return Task(words, rules_named(rules) + more, intended, limits, given.gvr, modules)
 
 
 def one_file(given: argparse.Namespace) -> str:
@@ -192,7 +202,7 @@ def check(given: argparse.Namespace) -> int:
     counts: Dict[str, int] = {}
     for path in given.files:
         deaths = len(sides.theirs.deaths)
-        found = verdict(task, sides, path, read(path))
+        found = verdicts(task, sides, [(path, read(path))])[0]
         for death in sides.theirs.deaths[deaths:]:
             tell_error('%s: the adapter died and was started anew: %s' % (path, death))
         said = found.kind
@@ -222,11 +232,15 @@ def hunt(given: argparse.Namespace) -> int:
     task = task_of(given)
     if given.low >= given.high:
         raise Trouble('--from has to be less than --to')
+    themes = tuple(word for word in given.themes.split(',') if word)
+    unknown = [theme for theme in themes if theme not in WIDE]
+    if unknown:
+        raise Trouble('there is no theme %s; there are %s' % (unknown[0], ', '.join(WIDE)))
     make, workers = cluster(given.on) if given.on else (processes(given.processes), given.processes)
     hunting = Hunt(task, make, workers, tell_error)
     progress = Progress(given.high - given.low, sys.stderr)
     try:
-        found = hunting.run(parts(given.profile, given.zero, given.low, given.high), progress)
+        found = hunting.run(parts(Part(given.profile, given.zero, given.low, given.high, themes)), progress)
         progress.over()
         print('\n'.join(told_found(found)), flush=True)
         if given.out:

@@ -2,10 +2,11 @@
 import threading
 from typing import Any, Dict, FrozenSet, List, NamedTuple, Optional, Sequence, Tuple
 
+from ..model import Scenario
 from . import generate
-from .events import Difference, outcome, void
+from .events import Difference, Run, outcome, void
 from .minimise import size, smallest
-from .rules import explain, meaning
+from .rules import add_rules, explain, meaning
 from .sides import Adapter, Gvr, Limits, Sides, checked
 
 Class = Tuple[str, ...]
@@ -22,6 +23,7 @@ class Task(NamedTuple):
     intended: FrozenSet[str] = frozenset()
     limits: Limits = Limits()
     program: Optional[str] = None
+    modules: Tuple[str, ...] = ()             # that have rules of an author's own
 
 
 class Part(NamedTuple):
@@ -31,12 +33,13 @@ class Part(NamedTuple):
     zero: bool
     low: int
     high: int
+    themes: Tuple[str, ...] = ()
 
     def scenarios(self) -> List[Tuple[str, str]]:
         """(name, text) of each seed that makes a scenario."""
-        made = [(seed, generate.text(seed, self.profile, self.zero)) for seed in range(self.low, self.high)]
-        zero = '-zero' if self.zero else ''
-        return [('%s%s/%d' % (self.profile, zero, seed), text) for seed, text in made if text is not None]
+        made = [(seed, generate.text(seed, self.profile, self.zero, self.themes)) for seed in range(self.low, self.high)]
+        kind = '-'.join([self.profile, *self.themes] + (['zero'] if self.zero else []))
+        return [('%s/%d' % (kind, seed), text) for seed, text in made if text is not None]
 
 
 class Verdict(NamedTuple):
@@ -73,6 +76,8 @@ LOCAL = Local()
 def sides_of(task: Task) -> Sides:
     """The two sides of a task, made when this thread first wants them."""
     if task not in LOCAL.sides:
+        for module in task.modules:
+            add_rules(module)
         LOCAL.sides[task] = Sides(Adapter(task.words), Gvr(task.limits, task.program), task.intended)
     return LOCAL.sides[task]
 
@@ -84,33 +89,51 @@ def close_sides() -> None:
     LOCAL.sides.clear()
 
 
-def verdict(task: Task, sides: Sides, name: str, text: str) -> Verdict:
-    """Compare one scenario, and explain it if it differs."""
-    scenario = checked(text)
-    if scenario is None:
-        return Verdict(name, 'refused')
-    model = sides.model(text, scenario)
-    nothing = void(model)
-    theirs = [] if nothing else sides.theirs.run(text, scenario)
-    nothing = nothing or void(theirs)
-    if nothing:
-        return Verdict(name, 'void: ' + nothing)
-    difference = Difference(theirs, model)
+def verdicts(task: Task, sides: Sides, named: Sequence[Tuple[str, str]]) -> List[Verdict]:
+    """What comes of each scenario, (name, text)."""
+    read = [(name, text, checked(text)) for name, text in named]
+    models = [[] if scenario is None else sides.model(text, scenario) for _, text, scenario in read]
+    wanted = [i for i, (_, _, scenario) in enumerate(read) if scenario is not None and not void(models[i])]
+    theirs = dict(zip(wanted, sides.theirs.run_all([each for i, (_, _, each) in enumerate(read) if i in set(wanted) and each])))
+    found = []
+    for i, (name, text, scenario) in enumerate(read):
+        if scenario is None:
+            found.append(Verdict(name, 'refused'))
+        elif i not in theirs or void(theirs[i]):
+            found.append(Verdict(name, 'void: %s' % void(theirs.get(i, models[i]))))
+        else:
+            found.append(compared(task, sides, Both(name, text, scenario, theirs[i], models[i])))
+    return found
+
+
+class Both(NamedTuple):
+    """A scenario with both its runs."""
+
+    name: str
+    text: str
+    scenario: Scenario
+    theirs: Run
+    model: Run
+
+
+def compared(task: Task, sides: Sides, both: Both) -> Verdict:
+    """Compare both runs, and explain their difference."""
+    difference = Difference(both.theirs, both.model)
     if not difference:
-        return Verdict(name, 'same')
+        return Verdict(both.name, 'same')
 
     def agrees(rules: FrozenSet[str]) -> bool:
-        return not Difference(theirs, sides.model(text, scenario, rules))
+        return not Difference(both.theirs, sides.model(both.text, both.scenario, rules))
     rules = None if task.program else explain(agrees, task.rules)
-    return Verdict(name, 'different', difference.levels[0], rules, text)
+    return Verdict(both.name, 'different', difference.levels[0], rules, both.text)
 
 
 def compare(task: Task, part: Part) -> Answer:
     """The verdicts of a part's scenarios."""
     sides = sides_of(task)
     before = len(sides.theirs.deaths)
-    verdicts = [verdict(task, sides, name, text) for name, text in part.scenarios()]
-    return Answer(part, verdicts, sides.theirs.deaths[before:])
+    found = verdicts(task, sides, part.scenarios())
+    return Answer(part, found, sides.theirs.deaths[before:])
 
 
 def differs(sides: Sides, text: str, rules: Sequence[str]) -> Optional[Difference]:

@@ -17,7 +17,8 @@ from .tree import tree_of
 PACKAGES = os.path.dirname(os.path.dirname(os.path.dirname(os.path.abspath(__file__))))
 ADAPTERS = {'gevent': 'gevent', 'asyncio': 'asyncio', 'trio': 'trio'}       # name: the module that it needs
 NO_RULES: FrozenSet[str] = frozenset()
-PATIENCE = 60.0                                                             # seconds of true time for one scenario
+PATIENCE = 60.0                   # seconds of true time for an answer
+TOGETHER = 30000                  # bytes of trees that are sent together: less than a pipe holds
 
 
 class Trouble(Exception):
@@ -140,32 +141,53 @@ class Adapter:
 
     def run(self, text: str, scenario: Optional[Scenario] = None) -> Run:
         """The run as events; the last is `died` if the adapter ended under way."""
+        return self.run_all([scenario or read(text.encode())])[0]
+
+    def run_all(self, scenarios: Sequence[Scenario]) -> List[Run]:
+        """The runs of these scenarios. Some are sent together; those that an adapter which ends leaves are sent anew."""
+        trees = [json.dumps(tree_of(scenario), separators=(',', ':')) + '\n' for scenario in scenarios]
+        runs: List[Run] = []
+        while len(runs) < len(trees):
+            count, size = 1, len(trees[len(runs)])
+            while len(runs) + count < len(trees) and size + len(trees[len(runs) + count]) < TOGETHER:
+                size += len(trees[len(runs) + count])
+                count += 1
+            runs += self.answers(trees[len(runs):len(runs) + count])
+        return runs
+
+    def answers(self, trees: List[str]) -> List[Run]:
+        """The runs of the first of these trees: all, or those up to the one at which the adapter ended."""
         process = self.process or self.start()
-        tree = json.dumps(tree_of(scenario or read(text.encode())), separators=(',', ':'))
         timer = threading.Timer(self.patience, process.kill)
         timer.start()
         try:
-            return self.heard(process, tree)
+            assert process.stdin is not None
+            process.stdin.write(''.join(trees))
+            process.stdin.flush()
+            return self.heard(process, len(trees))
+        except BrokenPipeError:
+            return [[self.died()]]
         finally:
             timer.cancel()
 
-    def heard(self, process: 'subprocess.Popen[str]', tree: str) -> Run:
-        assert process.stdin is not None and process.stdout is not None
+    def heard(self, process: 'subprocess.Popen[str]', count: int) -> List[Run]:
+        assert process.stdout is not None
+        runs: List[Run] = []
         events: Run = []
-        try:
-            process.stdin.write(tree + '\n')
-            process.stdin.flush()
-            for line in process.stdout:
-                event = self.event_of(line)
-                if event['ev'] == 'over':
-                    self.has_answered = True
-                    if event.get('last'):                 # it wants to be started anew
-                        self.close()
-                    return events
+        for line in process.stdout:
+            event = self.event_of(line)
+            if event['ev'] != 'over':
                 events.append(event)
-        except BrokenPipeError:
-            pass
-        return events + [self.died()]
+                continue
+            self.has_answered = True
+            runs.append(events)
+            events = []
+            if event.get('last'):                         # it wants to be started anew
+                self.close()
+                return runs
+            if len(runs) == count:
+                return runs
+        return runs + [events + [self.died()]]
 
     def event_of(self, line: str) -> Event:
         try:

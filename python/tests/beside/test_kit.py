@@ -105,6 +105,13 @@ class Parts(unittest.TestCase):
         text = 'event e\ndef main\n  x <- wait e within 5\nend\n'
         self.assertEqual(smallest(text, lambda t: 'within' in t), 'event e\ndef main\n  wait e within 5\nend\n')
 
+    def test_minimise_puts_a_body_where_it_is_called(self) -> None:
+        text = 'sem s 1\ndef w h\n  release s\nend\ndef main\n  sleep 5\n  g <- spawn w self\n  print 1\nend\n'
+        self.assertEqual(smallest(text, lambda t: 'release s' in t and ('spawn w' in t or 'release s' in t.split('def main')[1])),
+                         'sem s 1\ndef main\n  release s\nend\n')
+        after = 'def main\n  spawn w\nend\ndef w\n  print 2\n  print 1\nend\n'
+        self.assertEqual(smallest(after, lambda t: 'print 2\n  print 1\n' in t), 'def main\n  print 2\n  print 1\nend\n')
+
     def test_explain_is_the_smallest_set(self) -> None:
         self.assertEqual(explain(lambda rules: {'zero_last', 'overtake'} <= rules), ('overtake', 'zero_last'))
         self.assertIsNone(explain(lambda rules: False))

@@ -4,6 +4,7 @@
 explain(agrees, rules) finds the smallest set under which a difference is gone: that set is the difference's class; None
 means that it is not understood yet.
 """
+import importlib
 from functools import lru_cache
 from itertools import combinations
 from typing import Callable, Dict, FrozenSet, Optional, Sequence, Tuple, Type
@@ -11,7 +12,7 @@ from typing import Callable, Dict, FrozenSet, Optional, Sequence, Tuple, Type
 from . import asyncio, gevent, gevent_crews
 from .rule import Rule, Ruled
 
-__all__ = ['Rule', 'Ruled', 'explain', 'machine_with', 'meaning', 'names', 'rule', 'sets']
+__all__ = ['Rule', 'Ruled', 'add_rules', 'explain', 'machine_with', 'meaning', 'names', 'rule', 'sets']
 
 # In this order they are tried: of rules that stand for each other the one later in the list is kept.
 GEVENT: Tuple[Type[Rule], ...] = (
@@ -24,6 +25,13 @@ ASYNCIO: Tuple[Type[Rule], ...] = (
     gevent.Overtake, gevent.StaleWake, gevent.LateReads, *asyncio.RULES)
 RUNTIMES: Dict[str, Tuple[Type[Rule], ...]] = {'gevent': GEVENT, 'asyncio': ASYNCIO}
 RULES: Dict[str, Type[Rule]] = {each.name: each for rules in RUNTIMES.values() for each in rules}
+
+
+def add_rules(module: str) -> Tuple[str, ...]:
+    """Rules of an author's own: the module has them in a list RULES. Gives their names."""
+    added: Sequence[Type[Rule]] = importlib.import_module(module).RULES
+    RULES.update({each.name: each for each in added})
+    return tuple(each.name for each in added)
 
 
 def sets() -> Dict[str, Tuple[str, ...]]:
