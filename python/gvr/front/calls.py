@@ -10,7 +10,7 @@ from typing import Iterator, List, Optional, Sequence, Tuple
 from . import colour, endings, explain, usage
 from .comments import with_comments
 from .commands import BY_NAME, RUN_OPTIONS
-from .files import MOST_CHECKED, MOST_TEXT, read_text
+from .files import MOST_CHECKED, MOST_TEXT, Unread, read_text
 from .program import NOT_PROVED, TOP, Answer, ask, built_program, put, show
 from .words import Call, first_line_words, read_call, words_to_run
 
@@ -146,21 +146,35 @@ def try_all(words: List[str]) -> Answer:
     return Answer(DONE, b"", "")
 
 
+def last_save(file: str) -> Optional[Tuple[int, int]]:
+    """By what a save of the file is known; nothing where it is not there."""
+    try:
+        found = os.stat(file)
+    except OSError:
+        return None
+    return found.st_mtime_ns, found.st_size
+
+
+def answer_to(words: List[str]) -> Answer:
+    """Runs a scenario; where it cannot be read, the answer says so."""
+    try:
+        return run(words)
+    except Unread as fault:
+        return fault.answer
+
+
 def watch(words: List[str]) -> Answer:
     """Runs a scenario now and at each save, until it is interrupted."""
     call, refused = read_one("watch", words)
     if refused or not call.files:
         return refused or no_command("watch", call, "which file?")
-    seen: object = None
+    seen: object = "nothing yet"
     while True:
-        try:
-            now: object = (os.stat(call.files[0]).st_mtime_ns, os.stat(call.files[0]).st_size)
-        except OSError:
-            now = seen
-        if now != seen or seen is None:
+        now = last_save(call.files[0])
+        if now != seen:
             seen = now
             put((CLEAR if sys.stdout.isatty() else "").encode() + f"-- {call.files[0]}\n".encode())
-            status = finish(run(["run", *call.options, call.files[0]]))
+            status = finish(answer_to(["run", *call.options, call.files[0]]))
             put(f"-- ended with status {status}; waits for the next save, Ctrl-C ends it\n".encode())
         time.sleep(LOOK)
 

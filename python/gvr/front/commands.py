@@ -91,12 +91,12 @@ COMMANDS: Tuple[Command, ...] = (
             "answer connections over 127.0.0.1",
             "Listens on 127.0.0.1, writes `listening PORT`, answers so many connections, and writes `served N`.",
             ("--port", "--conns", "--pool", "--idle", "--jobs", "--gateway"), True, False),
-    Command("live", ("PROGRAM.py [ARGUMENTS]",), "run a Python program written for gevent",
+    Command("live", ("[OPTIONS] PROGRAM.py [ARGUMENT..]",), "run a Python program written for gevent",
             "Runs a Python program with gvr deciding every order; docs/LIVE.md tells more, and `live --help`."),
-    Command("beside", ("SCENARIO.gvr [--adapter NAME]",), "run a scenario beside another runtime",
+    Command("beside", ("[OPTIONS] FILE", "check FILE..", "hunt --from A --to B"), "run a scenario beside another runtime",
             "Runs a scenario by gvr and by another runtime, gevent first, and tells the first difference; docs/BESIDE.md "
             "tells more, and `beside --help`."),
-    Command("app", ("MODULE:CALLABLE",), "serve a WSGI application over SCGI",
+    Command("app", ("[OPTIONS] MODULE:CALLABLE",), "serve a WSGI application over SCGI",
             "Serves a WSGI application of yours over SCGI; docs/BEHIND.md tells more, and `app --help`."),
 )
 BY_NAME: Dict[str, Command] = {it.name: it for it in COMMANDS}

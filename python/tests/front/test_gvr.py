@@ -195,11 +195,13 @@ class Views(Front):
         self.assertEqual(ended.returncode, 0)
 
     def test_watch_runs_at_each_save(self) -> None:
-        file = pathlib.Path(self.write("w.gvr", "def main\nprint 1\nend\n"))
+        file = self.folder / "w.gvr"
         out = open(self.folder / "out", "w+")
         self.addCleanup(out.close)
         watching = subprocess.Popen([GVR, "watch", str(file)], stdout=out, stderr=subprocess.DEVNULL, env=self.environment(self.program))
         try:
+            self.wait_for("ended with status 4")
+            file.write_text("def main\nprint 1\nend\n")
             self.wait_for("print g0 1")
             file.write_text("def main\nprint 22\nend\n")
             self.wait_for("print g0 22")
