@@ -105,9 +105,12 @@ function takeOptions() {
   if (optionWords().length) by("more").open = true;
 }
 
+/** Of a first line the words that the page has no control for: it runs without them, and says so. */
+const otherWords = () => (firstWords(text.value) ?? "").replace(/--(tick|turns|moves)[ =]\S+/g, "").split(/ +/).filter(Boolean);
+
 /** A control that is changed changes the first line too, where the text has one. */
 function onOption() {
-  const words = optionWords().join(" ");
+  const words = [...optionWords(), ...otherWords()].join(" ");
   if (firstWords(text.value) === null) return;
   const at = text.value.indexOf("\n"), rest = at < 0 ? "" : text.value.slice(at + 1);
   takenWords = words || null;
@@ -120,8 +123,8 @@ const asRun = () => (text.value === "" || text.value.endsWith("\n") ? text.value
 
 /** The text as a file keeps it. */
 function asFile() {
-  const words = optionWords().join(" "), rest = asRun().replace(/^# run.*\n/, "");
-  return words ? `# run ${words}\n${rest}` : rest;
+  const words = optionWords().join(" ");
+  return words && firstWords(text.value) === null ? `# run ${words}\n${asRun()}` : asRun();
 }
 
 // ---- what is answered
@@ -203,7 +206,8 @@ let trace = null;
 
 function show(said, words, isFirst = false) {
   trace = { ...said, isFirst: isFirst && said.status === 6 };
-  const lines = said.count === 1 ? "1 line" : `${said.count} lines`, time = `${said.time.toFixed(1)} ms`;
+  const others = otherWords().join(" "), without = others && words[0] === "run" ? `; without ${others}, which a page does not have` : "";
+  const lines = said.count === 1 ? "1 line" : `${said.count} lines`, time = `${said.time.toFixed(1)} ms${without}`;
   by("go-on").hidden = !trace.isFirst;
   const spent = said.err.includes("turns") ? `${FIRST.turns} turns` : `${FIRST.moves} moves`;
   if (trace.isFirst) tellState(`not ended after ${spent}`, `${lines}, ${time}; Go on has it run on, up to the usual budgets`);
