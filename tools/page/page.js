@@ -105,9 +105,12 @@ function takeOptions() {
   if (optionWords().length) by("more").open = true;
 }
 
+/** Of a first line the words that the page has no control for: it runs without them, and says so. */
+const otherWords = () => (firstWords(text.value) ?? "").replace(/--(tick|turns|moves)[ =]\S+/g, "").split(/ +/).filter(Boolean);
+
 /** A control that is changed changes the first line too, where the text has one. */
 function onOption() {
-  const words = optionWords().join(" ");
+  const words = [...optionWords(), ...otherWords()].join(" ");
   if (firstWords(text.value) === null) return;
   const at = text.value.indexOf("\n"), rest = at < 0 ? "" : text.value.slice(at + 1);
   takenWords = words || null;
@@ -120,8 +123,8 @@ const asRun = () => (text.value === "" || text.value.endsWith("\n") ? text.value
 
 /** The text as a file keeps it. */
 function asFile() {
-  const words = optionWords().join(" "), rest = asRun().replace(/^# run.*\n/, "");
-  return words ? `# run ${words}\n${rest}` : rest;
+  const words = optionWords().join(" ");
+  return words && firstWords(text.value) === null ? `# run ${words}\n${asRun()}` : asRun();
 }
 
 // ---- what is answered
@@ -203,7 +206,8 @@ let trace = null;
 
 function show(said, words, isFirst = false) {
   trace = { ...said, isFirst: isFirst && said.status === 6 };
-  const lines = said.count === 1 ? "1 line" : `${said.count} lines`, time = `${said.time.toFixed(1)} ms`;
+  const others = otherWords().join(" "), without = others && words[0] === "run" ? `; without ${others}, which a page does not have` : "";
+  const lines = said.count === 1 ? "1 line" : `${said.count} lines`, time = `${said.time.toFixed(1)} ms${without}`;
   by("go-on").hidden = !trace.isFirst;
   const spent = said.err.includes("turns") ? `${FIRST.turns} turns` : `${FIRST.moves} moves`;
   if (trace.isFirst) tellState(`not ended after ${spent}`, `${lines}, ${time}; Go on has it run on, up to the usual budgets`);
@@ -211,6 +215,7 @@ function show(said, words, isFirst = false) {
   showTold(trace, said.text ?? text.value);
   showTrace(said);
   showPicture(said.svg, words[0] === "run" && said.count > 0);
+  keepRows();
   by("keep").hidden = said.count === 0;
 }
 
@@ -304,7 +309,16 @@ async function openFile(file) {
 
 // ---- what is lit
 
-let lit = null;
+let lit = null, litSource = null, rows = new Map();
+
+/** Keeps the elements of each line of the trace: its own and its row in the picture. */
+function keepRows() {
+  rows = new Map();
+  for (const it of document.querySelectorAll(".result [data-line]")) {
+    if (!rows.has(it.dataset.line)) rows.set(it.dataset.line, []);
+    rows.get(it.dataset.line).push(it);
+  }
+}
 
 /** Where the lines of the trace are of, by the text that was run; nothing once the text is another. */
 const sources = () => (trace?.sources ?? []);
@@ -315,12 +329,13 @@ function forgetSources() {
 }
 
 function unlight() {
+  lit = litSource = null;
   for (const it of document.querySelectorAll(".result .lit")) it.classList.remove("lit");
   by("sources").replaceChildren();
 }
 
 function lightRows(line, isSought) {
-  for (const it of document.querySelectorAll(`.result [data-line="${line}"]`)) {
+  for (const it of rows.get(String(line)) ?? []) {
     it.classList.add("lit");
     if (isSought) it.scrollIntoView({ block: "nearest", inline: "nearest" });
   }
@@ -344,8 +359,8 @@ function seek(line) {
 function light(line, isSought = false) {
   if (line === lit && !isSought) return;
   unlight();
-  lit = line;
   if (line === null) return;
+  lit = line;
   lightRows(line, isSought);
   const of = sources()[line - 1] ?? [];
   of.forEach(lightText);
@@ -354,9 +369,10 @@ function light(line, isSought = false) {
 
 /** Lights all lines of the trace that a line of the scenario has written. */
 function lightFrom(line, isSought = false) {
+  if (line === litSource && !isSought) return;
   const those = sources().flatMap((of, at) => (of.includes(line) ? [at + 1] : []));
   unlight();
-  lit = null;
+  litSource = line;
   if (those.length === 0) return;
   lightText(line);
   those.forEach((it, at) => lightRows(it, isSought && at === 0));
@@ -380,7 +396,7 @@ const viewButtons = () => document.querySelectorAll("button[data-view]");
 
 function setView(view) {
   by("result").dataset.view = view;
-  for (const it of viewButtons()) it.ariaPressed = String(it.dataset.view === view);
+  for (const it of viewButtons()) it.setAttribute("aria-pressed", String(it.dataset.view === view));
 }
 
 /** The names of the lanes stay where the picture is scrolled. */

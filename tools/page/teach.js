@@ -57,8 +57,8 @@ function load(file, of = null) {
   loaded = file;
   by("example").value = of ? of.name : "";
   for (const name of Object.keys(OPTIONS)) by(name).value = "";
+  takenWords = shownText = null;
   text.value = file;
-  shownText = null;
   drawText();
   by("editor").scrollTop = 0;
   showSubject();
