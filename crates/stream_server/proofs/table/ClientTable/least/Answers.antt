@@ -2,7 +2,7 @@ use Rattle.std.proofs.Common.{ℕ, Option, Some, None, IfSome, ◌≤◌, subst,
 use Rattle.std.specs.List.{All}
 use Rattle.due_timers.specs.declared.heap.Timer.{Timer}
 use Rattle.stream_server.specs.TableParts.{IsSound}
-use Rattle.stream_server.specs.Tables.{EachDeadline, IsListed, SeenTable}
+use Rattle.stream_server.specs.Tables.{EachDeadline, SeenTable}
 use Rattle.stream_server.specs.declared.table.ClientTable.TheInside.{Inside}
 use Rattle.stream_server.proofs.Tabling.{listed_deadline}
 use Rattle.stream_server.proofs.table.ClientTable.least.Goals as goal
