@@ -6,10 +6,12 @@ and telling, with a `print` of what each statement gave or raised (certificate.p
 import re
 from typing import Dict, List, NamedTuple, Optional, Tuple
 
+from .folding import fold, group
 from .handles import IN_A_LIST
 from .record import Block, Bodies, Body, Node, Place, Record, Statement
 from .values import Legend
 
+MOST_TEXT, SHORTEST = 1048576, 12                # bytes of a scenario, and of what most statements have at least
 HANDLE = re.compile(r'\Ag([0-9]+)\Z')
 
 
@@ -24,13 +26,18 @@ class Spelt(NamedTuple):
 
 
 def spell(record: Record, legend: Legend = (), marks: bool = False, telling: bool = False) -> Spelt:
-    """The scenario that a record is."""
-    return _Speller(record, marks, telling).whole(legend)
+    """The scenario that a record is; folded where it is too long, and without its legend where it is still so."""
+    if marks or record.statements() * SHORTEST <= MOST_TEXT:
+        spelt = _Speller(record, marks, telling, False).whole(legend)
+        if marks or len(spelt.text) <= MOST_TEXT:
+            return spelt
+    folded = _Speller(record, marks, telling, True).whole(legend)
+    return folded if len(folded.text) <= MOST_TEXT else _Speller(record, marks, telling, True).whole(())
 
 
 class _Speller:
-    def __init__(self, record: Record, marks: bool, telling: bool) -> None:
-        self.record, self.marks, self.telling = record, marks, telling
+    def __init__(self, record: Record, marks: bool, telling: bool, folds: bool) -> None:
+        self.record, self.marks, self.telling, self.folds = record, marks, telling, folds
         self.lines: List[str] = []
         self.places: List[Place] = []
         self.pad = ''
@@ -136,7 +143,10 @@ class _Speller:
     def block(self, body: Body, nodes: List[Node], stands: bool) -> None:
         """stands: the body stands somewhere in it."""
         here = stands and nodes is body.inner()
+        first = len(self.lines)
+        begins: List[int] = []
         for place, node in enumerate(nodes):
+            begins.append(len(self.lines))
             if isinstance(node, Block):
                 self.place = None
                 self.say('timeout %s' % ('none' if node.milliseconds is None else node.milliseconds))
@@ -151,6 +161,15 @@ class _Speller:
                 self.statement(body, node)
         if here and (not nodes or isinstance(nodes[-1], Block)):
             self.mark('list 0', 'none')
+        if self.folds:
+            self.fold(first, begins + [len(self.lines)])
+
+    def fold(self, first: int, begins: List[int]) -> None:
+        """Folds the lines from the first on; begins has where each node begins."""
+        groups = [group(self.lines[a:b], self.places[a]) for a, b in zip(begins, begins[1:]) if b > a]
+        folded = fold(groups)
+        self.lines[first:] = [line for line, _ in folded]
+        self.places[first:] = [place for _, place in folded]
 
     def standing(self, body: Body, statement: Statement) -> None:
         """The statement that the body stands at, with a mark for what it gives or raises."""
