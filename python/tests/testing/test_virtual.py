@@ -1,5 +1,6 @@
 """Tests of gvr.testing: virtual time, one order, what a failure tells, what is kept of it, and assert_order."""
 import importlib.util
+import io
 import os
 import pathlib
 import random
@@ -208,6 +209,18 @@ class Telling(unittest.TestCase):
             os.environ.pop("PYTEST_CURRENT_TEST", None)
             error = self.failure(waits_for_nobody)
         self.assertEqual(error.__notes__, [error.gvr_report.text()])
+
+    def test_without_notes_the_report_stands_on_standard_error(self) -> None:
+        class Old(Exception):
+            add_note = None
+
+        def fails() -> None:
+            raise Old()
+
+        with mock.patch.dict(os.environ), mock.patch("sys.stderr", io.StringIO()) as said:
+            os.environ.pop("PYTEST_CURRENT_TEST", None)
+            error = self.failure(fails)
+        self.assertEqual(said.getvalue(), error.gvr_report.text() + "\n")
 
     def test_the_traceback_begins_with_the_test(self) -> None:
         def fails() -> None:
