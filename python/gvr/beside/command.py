@@ -220,7 +220,7 @@ def told_found(found: Found) -> List[str]:
     """A hunt's counts and classes."""
     counts = found.as_json()['counts']
     out = ['%d scenarios: %s' % (len(found.names), ', '.join('%d %s' % (n, kind) for kind, n in counts.items()))]
-    for rules, count in found.classes.most_common():
+    for rules, count in found.most_common():
         levels = ', '.join('%s %d' % (LEVELS[level], n) for level, n in sorted(found.levels[rules].items()))
         out.append('%6d  %-50s %s' % (count, ' '.join(rules) or '(intended)', levels))
     out.append('%6d  no rule explains it' % len(found.unexplained))
