@@ -102,10 +102,10 @@ def one_file(given: argparse.Namespace) -> str:
 # ------------------------------------------------------------ show
 
 
-def columns(theirs: List[Event], difference: Difference, name: str) -> List[str]:
+def columns(difference: Difference, name: str) -> List[str]:
     """Both sides, a line for each event, `>` where they differ, with the scenario's line."""
     left, right = views(difference.theirs).c, views(difference.model).c
-    lines = [event.get('line') for event in theirs if is_compared(event)]
+    lines = [event.get('line') for event in difference.theirs if is_compared(event)]
     width = max([len(x) for x in left] + [len(name), 10])
     out = ['%-*s   %s' % (width, name, 'gvr')]
     for i in range(max(len(left), len(right))):
@@ -128,19 +128,19 @@ def line_of(events: List[Event], at: int) -> Optional[int]:
     return None
 
 
-def told_difference(theirs: List[Event], difference: Difference, name: str, text: str) -> List[str]:
-    at = line_of(theirs, difference.first)
+def told_difference(difference: Difference, name: str, text: str) -> List[str]:
+    """The first difference, with the lines at which both stand, and the levels."""
     out = ['first difference: %s has `%s`, gvr has `%s`' % (name, difference.their_event, difference.model_event)]
-    if at is not None:
-        out.append('  at line %d: %s' % (at, text.split('\n')[at - 1].strip()))
+    for who, events in ((name, difference.theirs), ('gvr', difference.model)):
+        at = line_of(events, difference.first)
+        if at is not None:
+            out.append('  %s at line %d: %s' % (who, at, text.split('\n')[at - 1].strip()))
     return out + ['differs in: ' + ', '.join(LEVELS[level] for level in difference.levels)]
 
 
 def show(given: argparse.Namespace) -> int:
     """Both sides of one scenario."""
     path = one_file(given)
-    if path.endswith('.py'):
-        return under_gevent(given)
     text, task = read(path), task_of(given)
     scenario = checked(text)
     if scenario is None:
@@ -149,7 +149,7 @@ def show(given: argparse.Namespace) -> int:
     theirs, model = sides.theirs.run(text, scenario), sides.model(text, scenario)
     difference = Difference(theirs, model)
     name = given.adapter if given.adapter in ADAPTERS else 'runtime'
-    print('\n'.join(columns(theirs, difference, name)))
+    print('\n'.join(columns(difference, name)))
     print('\n%s: %s\ngvr: %s' % (name, outcome(theirs), outcome(model)))
     nothing = void(theirs) or void(model)
     if nothing:
@@ -158,7 +158,7 @@ def show(given: argparse.Namespace) -> int:
     if not difference:
         print('the same')
         return 0
-    print('\n'.join(told_difference(theirs, difference, name, text)))
+    print('\n'.join(told_difference(difference, name, text)))
 
     def agrees(rules: FrozenSet[str]) -> bool:
         return not Difference(theirs, sides.model(text, scenario, rules))
@@ -183,13 +183,13 @@ def why_void(nothing: str, theirs: List[Event], deaths: Sequence[str]) -> str:
     return 'a run is out of its budget: ' + nothing
 
 
-def under_gevent(given: argparse.Namespace) -> int:
-    """A Python program is gvr.live's."""
+def under_gevent(words: Sequence[str]) -> int:
+    """A Python program, with the words beside it, is gvr.live's."""
     try:
         comparing: Any = importlib.import_module('gvr.live.under_gevent')
     except ImportError as error:
-        raise Trouble('%s is a Python program, which needs gvr.live: %s' % (given.files[0], error)) from None
-    return int(comparing.main([*given.files]))
+        raise Trouble('a Python program needs gvr.live: %s' % error) from None
+    return int(comparing.main(words))
 
 
 # ------------------------------------------------------------ check, hunt, and the small ones
@@ -220,7 +220,7 @@ def told_found(found: Found) -> List[str]:
     """A hunt's counts and classes."""
     counts = found.as_json()['counts']
     out = ['%d scenarios: %s' % (len(found.names), ', '.join('%d %s' % (n, kind) for kind, n in counts.items()))]
-    for rules, count in found.classes.most_common():
+    for rules, count in found.most_common():
         levels = ', '.join('%s %d' % (LEVELS[level], n) for level, n in sorted(found.levels[rules].items()))
         out.append('%6d  %-50s %s' % (count, ' '.join(rules) or '(intended)', levels))
     out.append('%6d  no rule explains it' % len(found.unexplained))
@@ -287,11 +287,11 @@ DOES: Dict[str, Callable[[argparse.Namespace], int]] = {
 def main(words: Optional[Sequence[str]] = None) -> int:
     """The command; its status: 0 the same, 1 a difference, 2 a word that is wrong, 3 a trouble that is told."""
     given_words = list(sys.argv[1:] if words is None else words)
-    if given_words and given_words[0] not in WORDS and not given_words[0].startswith('-h') \
-            and given_words[0] != '--help':
-        given_words.insert(0, 'show')
-    given = parser().parse_intermixed_args(given_words or ['--help'])
+    is_show = bool(given_words) and given_words[0] not in (*WORDS, '-h', '--help')
     try:
+        if is_show and any(word.endswith('.py') for word in given_words):
+            return under_gevent(given_words)
+        given = parser().parse_intermixed_args((['show'] if is_show else []) + given_words or ['--help'])
         return DOES[given.what](given)
     except Trouble as trouble:
         tell_error(str(trouble))

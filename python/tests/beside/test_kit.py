@@ -167,9 +167,10 @@ class AnAdapter(unittest.TestCase):
             Adapter([sys.executable, '-c', 'input(); print("hello", flush=True); input()']).run(HELLO)
 
     def test_one_that_hangs(self) -> None:
-        side = Adapter([sys.executable, '-c', DIES.replace("sys.exit('out of luck')", 'import time; time.sleep(99)')], 0.5)
+        side = Adapter([sys.executable, '-c', DIES.replace("sys.exit('out of luck')", 'import time; time.sleep(99)')])
         self.addCleanup(side.close)
-        side.run(HELLO)
+        self.assertIsNone(void(side.run(HELLO)))
+        side.patience = 0.5
         self.assertEqual(void(side.run(HELLO)), 'died')
 
 

@@ -26,6 +26,7 @@ import os
 import sys
 import threading
 from collections import deque
+from typing import Any, Callable, Deque, Iterator, List, Optional, Set, Tuple
 
 COST = float(os.environ.get('VIRTUAL_LOOP_COST', '0'))     # what one callback costs, in seconds of the virtual clock
 PRIORITIES = True            # False: timers have none, as under libuv
@@ -35,49 +36,53 @@ class Callback:
     """The class of gevent/_ffi/callback.py."""
     __slots__ = ('callback', 'args')
 
-    def __init__(self, callback, args):
-        self.callback, self.args = callback, args or ()
+    def __init__(self, callback: Callable[..., object], args: Tuple[Any, ...]) -> None:
+        self.callback: Optional[Callable[..., object]] = callback
+        self.args: Optional[Tuple[Any, ...]] = args or ()
 
-    def stop(self):
+    def stop(self) -> None:
         self.callback = self.args = None
 
     close = stop
 
-    def __bool__(self):                       # pending, or running just now
+    def __bool__(self) -> bool:                       # pending, or running just now
         return self.args is not None
 
     @property
-    def pending(self):
+    def pending(self) -> bool:
         return self.callback is not None
 
 
 class Watcher:
-    def __init__(self, loop, ref=True, priority=None):
+    """What timers and async watchers share."""
+
+    def __init__(self, loop: 'VirtualLoop', ref: bool = True, priority: Optional[int] = None) -> None:
         self.loop, self.ref, self.priority = loop, ref, priority or 0
         self.active = self.pending = False
-        self.callback = self.args = None
+        self.callback: Optional[Callable[..., object]] = None
+        self.args: Tuple[Any, ...] = ()
 
-    def start(self, callback, *args, **kwargs):
+    def start(self, callback: Callable[..., object], *args: Any, **named: Any) -> None:
         self.callback, self.args = callback, args
         self.active = True
         if self.ref:
             self.loop.active.add(self)
 
-    def stop(self):
+    def stop(self) -> None:
         self.active = self.pending = False
-        self.callback = self.args = None
+        self.callback, self.args = None, ()
         self.loop.active.discard(self)
 
     close = stop
 
-    def __enter__(self):
+    def __enter__(self) -> 'Watcher':
         return self
 
-    def __exit__(self, *exc):
+    def __exit__(self, *exc: object) -> None:
         self.close()
 
-    def call(self):
-        if not self.pending:                  # stopped after it was collected
+    def call(self) -> None:
+        if not self.pending or self.callback is None:                  # stopped after it was collected
             return
         self.pending = False
         callback, args = self.callback, self.args
@@ -86,18 +91,20 @@ class Watcher:
         except BaseException:                 # as libev's callback does: nothing escapes into the loop
             self.loop.handle_error(self, *sys.exc_info())
         if not self.active and not self.pending and self.callback is callback:
-            self.callback = self.args = None
+            self.callback, self.args = None, ()
 
 
 class Timer(Watcher):
-    def __init__(self, loop, after, repeat, ref, priority):
+    """A timer that goes off once."""
+
+    def __init__(self, loop: 'VirtualLoop', after: float, repeat: float, ref: bool, priority: Optional[int]) -> None:
         super().__init__(loop, ref, priority if PRIORITIES else 0)
         if repeat:
             raise NotImplementedError('repeating timers')
-        self.after = after
+        self.after, self.at, self.number = after, 0.0, 0
 
-    def start(self, callback, *args, **kwargs):
-        update = kwargs.get('update')
+    def start(self, callback: Callable[..., object], *args: Any, **named: Any) -> None:
+        update = named.get('update')
         if self.loop.starting_timer_may_update_loop_time if update is None else update:
             self.loop.update_now()
         super().start(callback, *args)
@@ -105,85 +112,91 @@ class Timer(Watcher):
         self.number = next(self.loop.counter)
         heapq.heappush(self.loop.timers, (self.at, self.number, self))
 
-    def due(self, at, number):
+    def due(self, at: float, number: int) -> bool:
         return self.active and self.at == at and self.number == number
 
 
 class Async(Watcher):
-    def send(self):
+    """What a thread wakes the loop by."""
+
+    def send(self) -> None:
         with self.loop.changed:
             self.loop.sent.append(self)
             self.loop.changed.notify()
 
-    def send_ignoring_arg(self, _):
+    def send_ignoring_arg(self, _: object) -> None:
         self.send()
 
 
 class VirtualLoop:
+    """The loop, as gevent's hub wants one."""
+
     CALLBACK_CHECK_COUNT = 50
     MAXPRI, MINPRI = 2, -2
     approx_timer_resolution = 0.00001
-    error_handler = None
+    error_handler: Any = None
     default = True
     starting_timer_may_update_loop_time = False
 
-    def __init__(self, flags=None, default=None):
+    def __init__(self, flags: Any = None, default: Any = None) -> None:
         self.clock = self._now = 0.0
-        self.callbacks = deque()
-        self.timers, self.counter = [], itertools.count()
-        self.active = set()
-        self.changed, self.sent = threading.Condition(), deque()
-        self.gates = []
+        self.callbacks: Deque[Callback] = deque()
+        self.timers: List[Tuple[float, int, Timer]] = []
+        self.counter: Iterator[int] = itertools.count()
+        self.active: Set[Watcher] = set()
+        self.changed = threading.Condition()
+        self.sent: Deque[Watcher] = deque()
+        self.gates: List[Tuple[float, int, threading.Event, Callable[[], None]]] = []
         self.iterations = self.callbacks_run = 0
         self.broken = False
 
     # ------------------------------------------------------------ what the hub asks of a loop
 
-    def now(self):
+    def now(self) -> float:
         return self._now
 
-    def update_now(self):
+    def update_now(self) -> None:
         self._now = self.clock
 
-    def run_callback(self, func, *args):
+    def run_callback(self, func: Callable[..., object], *args: Any) -> Callback:
         cb = Callback(func, args)
         self.callbacks.append(cb)
         return cb
 
-    def run_callback_threadsafe(self, func, *args):
+    def run_callback_threadsafe(self, func: Callable[..., object], *args: Any) -> Callback:
         with self.changed:
             cb = self.run_callback(func, *args)
             self.changed.notify()
         return cb
 
-    def timer(self, after, repeat=0.0, ref=True, priority=None):
+    def timer(self, after: float, repeat: float = 0.0, ref: bool = True, priority: Optional[int] = None) -> Timer:
         return Timer(self, after, repeat, ref, priority)
 
-    def async_(self, ref=True, priority=None):
+    def async_(self, ref: bool = True, priority: Optional[int] = None) -> Async:
         return Async(self, ref, priority)
 
-    def fork(self, ref=True, priority=None):
+    def fork(self, ref: bool = True, priority: Optional[int] = None) -> Watcher:
         return Watcher(self, False, priority)
 
-    def handle_error(self, context, type, value, tb):
+    def handle_error(self, context: object, type: Any, value: Any, tb: Any) -> None:
         handler = self.error_handler
         if handler is not None:
             getattr(handler, 'handle_error', handler)(context, type, value, tb)
         else:
             sys.__excepthook__(type, value, tb)
 
-    def break_(self, how=None):
+    def break_(self, how: object = None) -> None:
         self.broken = True
 
-    def destroy(self):
+    def destroy(self) -> bool:
         return True
 
-    def _format(self):
+    def _format(self) -> str:
         return 'virtual'
 
     # ------------------------------------------------------------ an iteration
 
-    def run(self, nowait=False, once=False):
+    def run(self, nowait: bool = False, once: bool = False) -> None:
         self.broken = False
         while True:
             self.iterations += 1
@@ -193,7 +206,7 @@ class VirtualLoop:
             if self.broken or nowait or once or not (self.active or self.callbacks):
                 return
 
-    def run_callbacks(self):
+    def run_callbacks(self) -> None:
         self.starting_timer_may_update_loop_time = True
         try:
             count, expiration = self.CALLBACK_CHECK_COUNT, self._now + sys.getswitchinterval()
@@ -220,7 +233,7 @@ class VirtualLoop:
         finally:
             self.starting_timer_may_update_loop_time = False
 
-    def least_timer(self):
+    def least_timer(self) -> Optional[float]:
         while self.timers:
             at, number, t = self.timers[0]
             if t.due(at, number):
@@ -228,7 +241,7 @@ class VirtualLoop:
             heapq.heappop(self.timers)
         return None
 
-    def wait(self, block):
+    def wait(self, block: bool) -> None:
         timer = self.least_timer()
         gate = self.gates[0][0] if self.gates else None
         if block and not self.sent and self.active:
@@ -248,14 +261,14 @@ class VirtualLoop:
             self.heard()
             opened()
 
-    def heard(self):
+    def heard(self) -> None:
         """Wait, in true time, for the async of a thread."""
         with self.changed:
             if not self.changed.wait_for(lambda: self.sent or self.callbacks, timeout=10):
                 raise SystemError('a thread did not answer')
 
-    def deliver(self):
-        pending = []
+    def deliver(self) -> None:
+        pending: List[Watcher] = []
         while self.timers and self.timers[0][0] <= self._now:
             at, number, t = heapq.heappop(self.timers)
             if t.due(at, number):
@@ -272,6 +285,6 @@ class VirtualLoop:
 
     # ------------------------------------------------------------ jobs
 
-    def gate(self, takes, latch, opened):
+    def gate(self, takes: float, latch: threading.Event, opened: Callable[[], None]) -> None:
         """Open the latch that a job's thread waits on when `takes` has passed; then call opened()."""
         heapq.heappush(self.gates, (self._now + takes, next(self.counter), latch, opened))

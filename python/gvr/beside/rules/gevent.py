@@ -214,6 +214,9 @@ class LostWake(Rule):
     def holds(self, item: Item) -> bool:
         return item.since not in self.lost and super().holds(item)
 
+    def stays_ready(self, item: Item) -> bool:
+        return item.since not in self.lost and super().stays_ready(item)
+
     def remove(self, item: Item) -> None:
         super().remove(item)
         teller = teller_of(item)

@@ -28,7 +28,7 @@ def teller_of(item: Item) -> Optional[Teller]:
     wait = item.parked
     if wait.object is not None and wait.kind != 'gkill':              # a gkill joins each member
         return wait.object.name, side_of(wait.kind)
-    if wait.kind in ('join', 'get', 'joinall') and len(set(wait.targets)) == 1 and isinstance(wait.targets[0], G):
+    if wait.kind in ('join', 'get', 'joinall', 'gkill') and len(set(wait.targets)) == 1 and isinstance(wait.targets[0], G):
         return 'greenlet', wait.targets[0].g
     return None
 
