@@ -177,6 +177,39 @@ class Pages(unittest.TestCase):
         self.assertTrue(all(it in lines for it in (long, f"| {long} |", f"    {long}", "```fence")))
 
 
+class Lists(unittest.TestCase):
+    """What is counted and listed, in a copy of the pages over the crates and the examples as they are."""
+
+    def setUp(self) -> None:
+        folder = tempfile.TemporaryDirectory()
+        self.addCleanup(folder.cleanup)
+        self.top = pathlib.Path(folder.name)
+        for name in ("tools", "docs", "examples"):
+            shutil.copytree(TOP / name, self.top / name)
+        for name in ("crates", "python", "README.md", "CHANGELOG.md"):
+            (self.top / name).symlink_to(TOP / name)
+
+    def kept(self, tool: str, page: str, changed: "tuple[str, str]") -> None:
+        """The tool writes its part of the page, finds it right, and tells where it was changed."""
+        call = [str(self.top / "tools" / tool)]
+        subprocess.run([*call, "--write"], check=True, capture_output=True)
+        ended = subprocess.run(call, capture_output=True, text=True)
+        self.assertEqual((ended.stdout, ended.stderr, ended.returncode), ("", "", 0))
+        file = self.top / page
+        text = file.read_text()
+        self.assertIn(changed[0], text)
+        file.write_text(text.replace(*changed, 1))
+        ended = subprocess.run(call, capture_output=True, text=True)
+        self.assertIn(page, ended.stdout)
+        self.assertEqual(ended.returncode, 1)
+
+    def test_examples_by_their_questions(self) -> None:
+        self.kept("list_examples", "examples/README.md", ("| `hello` | Who runs", "| `hello` | Who ran"))
+
+    def test_counts(self) -> None:
+        self.kept("counts", "docs/TESTING.md", ("| tests | ", "| tests | 9"))
+
+
 class Completion(unittest.TestCase):
     def completed(self, *words: str) -> List[str]:
         """What bash offers for the last of these words."""
