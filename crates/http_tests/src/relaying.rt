@@ -73,7 +73,7 @@ fn status(
     is_head: bool,
 ) -> Result<Option<Bytes>, AllocError> {
     let mut reader = ReplyReader::new(alloc, is_head);
-    for piece in sent.chunks(size) {
+    for piece in sent.chunks(size.max(1)) {
         if !reader.is_decided() {
             reader.feed(piece)?;
         }
