@@ -242,7 +242,8 @@ def hunt(given: argparse.Namespace) -> int:
     try:
         found = hunting.run(parts(Part(given.profile, given.zero, given.low, given.high, themes)), progress)
         progress.over()
-        print('\n'.join(told_found(found)), flush=True)
+        print('\n'.join(told_found(found)))
+        print('in %.0f s, %.0f a second, by %d at a time' % (progress.passed(), progress.rate(found), workers), flush=True)
         if given.out:
             write(given.out, found, {})
             write(given.out, found, hunting.cases(given.most_rules))

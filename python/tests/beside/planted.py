@@ -19,5 +19,5 @@ class TwiceOvertaken(Semaphore):  # type: ignore[misc]
 
 
 if __name__ == '__main__':
-    adapter.Semaphore = TwiceOvertaken
+    setattr(adapter, 'Semaphore', TwiceOvertaken)
     adapter.main()

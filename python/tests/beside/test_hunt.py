@@ -122,7 +122,8 @@ class OnACluster(unittest.TestCase):
         self.addCleanup(client.close)
         whole = Part('short', False, 0, 250)
         task = Task(tuple(adapter_words('gevent', ORDERED)), sets()['gevent'])
-        hunt = Hunt(task, lambda: client.get_executor(pure=False), 3, lambda line: None)
+        executor: futures.Executor = client.get_executor(pure=False)
+        hunt = Hunt(task, lambda: executor, 3, lambda line: None)
         pid, killed = victim(client), threading.Event()
 
         def kill() -> None:

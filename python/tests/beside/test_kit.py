@@ -13,7 +13,7 @@ import gvr.beside
 from gvr.beside import generate
 from gvr.beside.as_python import NotWritten, program
 from gvr.beside.command import main
-from gvr.beside.events import Difference, Run, from_trace, outcome, until_main_ends, views, void
+from gvr.beside.events import Difference, Event, Run, from_trace, outcome, until_main_ends, views, void
 from gvr.beside.minimise import smallest
 from gvr.beside.rules import explain
 from gvr.beside.sides import Adapter, Gvr, Limits, Trouble, limits_of
@@ -74,16 +74,16 @@ class Parts(unittest.TestCase):
         self.assertEqual([e['ev'] for e in run], ['go', 'stop'])
 
     def test_the_first_difference(self) -> None:
-        stop = {'ev': 'stop', 'out': 'value none'}
-        one = [{'ev': 'go', 'g': 0}, {'ev': 'print', 'g': 0, 'v': '1'}, stop]
-        other = [{'ev': 'print', 'g': 0, 'v': '1'}, {'ev': 'go', 'g': 0}, stop]
+        stop: Event = {'ev': 'stop', 'out': 'value none'}
+        one: Run = [{'ev': 'go', 'g': 0}, {'ev': 'print', 'g': 0, 'v': '1'}, stop]
+        other: Run = [{'ev': 'print', 'g': 0, 'v': '1'}, {'ev': 'go', 'g': 0}, stop]
         difference = Difference(one, other)
         self.assertEqual((difference.levels, difference.first), ('c', 0))
         self.assertEqual((difference.their_event, difference.model_event), ('go g0', 'print g0 1'))
         self.assertFalse(Difference(one, list(one)))
 
     def test_after_main_nothing_is_compared(self) -> None:
-        run = [{'ev': 'end', 'g': 0, 'out': 'value none'}, {'ev': 'print', 'g': 1, 'v': '1'}, {'ev': 'stop', 'out': 'value none'}]
+        run: Run = [{'ev': 'end', 'g': 0, 'out': 'value none'}, {'ev': 'print', 'g': 1, 'v': '1'}, {'ev': 'stop', 'out': 'value none'}]
         self.assertEqual([e['ev'] for e in until_main_ends(run)], ['end', 'stop'])
 
     def test_a_hang_is_the_models_loop_exit(self) -> None:
