@@ -147,10 +147,11 @@ function figures(...texts) {
 function showEntry(entry, cure) {
   const parts = entry.parts.filter(([kind]) => kind === "text").map(([, it]) => paragraph(it));
   const texts = figures(...entry.parts.filter(([kind]) => kind !== "text").map(([kind, it]) => [kind, kind, it]));
-  const lines = (those) => those.map((it) => it.replaceAll("|", "\n")).join("\n\n");
+  // A declaration stands there without the function behind it.
+  const lines = (those) => those.map((it) => it.replace(/(.)\|def main\|end$/, "$1").replaceAll("|", "\n")).join("\n\n");
   if (cure) {
-    const meant = [paragraph(`**You meant**: ${cure.since}.`.replaceAll("*", "")), figures(["refused", "you wrote", lines(cure.wrote)], ["mended", "write", lines(cure.write)])];
-    by("entry").replaceChildren(made("div", "cure", "", ...meant), ...parts, texts);
+    const shown = figures(["refused", "you wrote", lines(cure.wrote)], ["mended", "write", lines(cure.write)]);
+    by("entry").replaceChildren(made("div", "cure", "", paragraph(`You meant: ${cure.since}.`), shown), ...parts, texts);
   } else by("entry").replaceChildren(...parts, texts);
 }
 
@@ -159,8 +160,8 @@ function showWord(number, reason, refused) {
   const lines = refused.split("\n"), line = lines[number - 1] ?? "", place = placeOf(lines, number, reason);
   by("word").hidden = !place || line.length > 200;
   if (place) {
-    const marks = " ".repeat(place.from) + "^".repeat(Math.max(1, place.length));
-    by("word").textContent = `${line}\n${marks}${place.wanted ? ` wanted: ${place.wanted}` : ""}`;
+    by("word").textContent = `${line}\n${" ".repeat(place.from)}${"^".repeat(place.length)}`;
+    by("wanted").textContent = place.wanted ? `Here is wanted: ${place.wanted}.` : "";
   }
   markLine(number, place);
   return cureOf(line, reason);
@@ -172,6 +173,7 @@ function showTold(said, refused) {
   by("told").hidden = said.err === "" && said.status === 0 || said.isFirst;
   by("err").textContent = said.status === 2 ? "" : said.err.trimEnd();
   by("word").hidden = true;
+  by("wanted").textContent = "";
   by("entry").replaceChildren(...(help ? [paragraph(help)] : []));
   if (place) showEntry(explain[place[2]], showWord(Number(place[1]), Number(place[2]), refused));
 }
