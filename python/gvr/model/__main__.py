@@ -1,6 +1,4 @@
-"""python3 -m gvr.model run|fmt|verify|storm ..: what the program of that name would answer, by the model. The input is
-that of the descriptor that GVR_INPUT names, standard input where it names none."""
-import os
+"""python3 -m gvr.model run|fmt|verify|storm ..: what the program of that name would answer, by the model."""
 import sys
 
 from .command import call
@@ -8,11 +6,9 @@ from .command import call
 
 def main() -> int:
     """Answers, and gives the status."""
-    given = open(int(os.environ.get("GVR_INPUT", "0")), "rb", buffering=0, closefd=False)
     try:
-        out = open(1, "wb", closefd=False)
-        status, complaint = call(sys.argv[1:], given, out)
-        out.close()
+        with open(0, "rb", buffering=0, closefd=False) as given, open(1, "wb", closefd=False) as out:
+            status, complaint = call(sys.argv[1:], given, out)
     except OSError:
         status, complaint = 5, "write fault"
     if complaint:

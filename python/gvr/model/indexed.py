@@ -51,9 +51,9 @@ class IndexedMachine(Machine):
         if item.kind == "wake" and item.parked.object is not None:
             line = item.parked.object.lines[item.parked.takes]
             del line.waiting[item.since]
-            if was_ready and item.parked.takes:
-                line.told -= 1
-            self.touch(item.parked.object)
+            if item.parked.takes:                           # those behind it come nearer
+                line.told -= was_ready
+                self.touch(item.parked.object)
         for whom in item.whom:
             del self.asking[whom][item.since]
 

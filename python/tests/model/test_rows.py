@@ -12,7 +12,7 @@ EXPLAIN = (TOP / "docs/EXPLAIN.md").read_text()
 BODY = "event e\nsem s 1\ndef w\nend\ndef main\na <- spawn w\nb <- spawn w\nlet i 0\nlet n 1\n"
 COMMANDS = ("run", "fmt", "verify", "storm")
 # Rows of a million kills, or of millions of moves: each takes minutes here.
-LONG = ("limit of kills", "storm of 19000")
+LONG = ("limit of kills", "many waiters", "storm of 19000")
 
 
 class Row(NamedTuple):
