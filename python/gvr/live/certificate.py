@@ -16,8 +16,8 @@ Runner = Callable[[str], List[str]]
 
 
 def find_program() -> Optional[str]:
-    """The built program: the one that GVR names, or the one of the checkout that this package stands in."""
-    named = os.environ.get('GVR')
+    """The built program: the one that GVR or GVR_PROGRAM names, or that of the checkout that this package stands in."""
+    named = os.environ.get('GVR') or os.environ.get('GVR_PROGRAM')
     if named:
         return named
     root = os.path.abspath(os.path.join(os.path.dirname(__file__), *[os.pardir] * 3))

@@ -93,6 +93,32 @@ class Said(unittest.TestCase):
         self.assertEqual(status, 9)
         self.assertTrue(said[-1].startswith('not certified: '), said)
 
+    def test_certified(self) -> None:
+        """By whatever program GVR names; here the model stands in its place."""
+        with tempfile.TemporaryDirectory() as folder:
+            program = os.path.join(folder, 'gvr')
+            with open(program, 'w', encoding='utf-8') as f:
+                f.write('#!/bin/sh\nexec %s -m gvr.model "$@"\n' % sys.executable)
+            os.chmod(program, 0o755)
+            text = 'import gevent\ng = gevent.spawn(print, 1)\ng.join()\nraise SystemExit(4)\n'
+            status, out, said = self.program(text, '--tick', '1', GVR=program)
+            self.assertEqual((status, out, said[-1]), (4, '1\n', 'certified by the proved program'))
+            many = 'from gevent.event import Event\n' + 'many = [Event() for _ in range(257)]\n'
+            status, out, said = self.program(many, GVR=program)
+        self.assertEqual((status, len(said)), (0, 1))
+        self.assertTrue(said[0].startswith('not certified: the record is past a limit of the language: '), said)
+        self.assertIn('line 257 of it: event many_257, at program.py:2 in ', said[0])
+
+    def test_without_greenlet(self) -> None:
+        with tempfile.TemporaryDirectory() as folder:
+            with open(os.path.join(folder, 'greenlet.py'), 'w', encoding='utf-8') as f:
+                f.write('raise ImportError\n')
+            environment = {**os.environ, 'PYTHONPATH': folder + os.pathsep + PYTHON}
+            done = subprocess.run([sys.executable, '-m', 'gvr.live', 'program.py'], stderr=subprocess.PIPE,
+                                  universal_newlines=True, env=environment)
+        self.assertEqual(done.returncode, 1)
+        self.assertIn('python3-greenlet', done.stderr)
+
     def test_files(self) -> None:
         with tempfile.TemporaryDirectory() as folder:
             name = os.path.join(folder, 'run')
