@@ -1,4 +1,4 @@
-"""What the command says: of a run that stands still, that spins, that raises, that is past a limit, and of its verdict."""
+"""What the command says of a run that stands still, that spins, that raises, that is past a limit, and its verdict."""
 import os
 import subprocess
 import sys
