@@ -88,6 +88,11 @@ class Said(unittest.TestCase):
         self.assertEqual(self.program('raise KeyError(5)\n', '--no-certificate')[0], 1)
         self.assertEqual(self.program('import gevent.socket\n', '--no-certificate')[0], 1)
 
+    def test_it_is_the_main_module(self) -> None:
+        text = ('import pickle\nclass A:\n    pass\n'
+                'print(type(pickle.loads(pickle.dumps(A()))) is A, __name__, __file__[-3:])\n')
+        self.assertEqual(self.program(text, '--no-certificate')[:2], (0, 'True __main__ .py\n'))
+
     def test_no_program(self) -> None:
         status, _, said = self.program('print(1)\n', GVR=NO_PROGRAM)
         self.assertEqual(status, 9)
