@@ -177,16 +177,20 @@ OURS: Dict[Tuple[Any, str], Any] = {
     (threading, 'Condition'): Condition, (threading, 'Thread'): Thread, (threading, 'local'): local_module.local,
     (threading, 'current_thread'): current_thread, (queue, 'Queue'): Fifo, (queue, 'LifoQueue'): Lifo,
     (queue, 'PriorityQueue'): Priority, (queue, 'SimpleQueue'): Simple}
+WHOLE = ('Thread', 'local', 'current_thread')    # these are the façade's for the library too, while a run lasts
 
 
-def _chosen(real: Any, ours: Any) -> Callable[..., Any]:
-    """The façade's for the program, the real one for the library."""
-    def make(*args: Any, **kwargs: Any) -> Any:
+def _chosen(real: Any, ours: Any) -> Any:
+    """A class that makes the façade's for the program, and the real one for the library. The program may derive from
+    it."""
+    def new(cls: Any, *args: Any, **kwargs: Any) -> Any:
         caller = sys._getframe(1).f_code.co_filename
         library = caller.startswith(LIBRARY) and 'packages' not in caller[len(LIBRARY):]
-        return (real if library or Session.current is None else ours)(*args, **kwargs)
-    make.__name__ = getattr(ours, '__name__', 'make')
-    return make
+        if cls is chosen and (library or Session.current is None):
+            return real(*args, **kwargs)
+        return object.__new__(cls)
+    chosen = type(ours.__name__, (ours,), {'__new__': new})
+    return chosen
 
 
 def install() -> None:
@@ -195,9 +199,7 @@ def install() -> None:
         return
     for (module, name), ours in OURS.items():
         real = REAL[module, name] = getattr(module, name)
-        # A class that programs derive from stands for itself.
-        replaces = ours if isinstance(ours, type) and name in ('Thread', 'local') else _chosen(real, ours)
-        setattr(module, name, replaces)
+        setattr(module, name, ours if name in WHOLE else _chosen(real, ours))
 
 
 def restore() -> None:

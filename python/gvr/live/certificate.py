@@ -16,8 +16,8 @@ Runner = Callable[[str], List[str]]
 
 
 def find_program() -> Optional[str]:
-    """The built program: the one that GVR names, or the one of the checkout that this package stands in."""
-    named = os.environ.get('GVR')
+    """The built program: the one that GVR or GVR_PROGRAM names, or that of the checkout that this package stands in."""
+    named = os.environ.get('GVR') or os.environ.get('GVR_PROGRAM')
     if named:
         return named
     root = os.path.abspath(os.path.join(os.path.dirname(__file__), *[os.pardir] * 3))
@@ -48,9 +48,14 @@ def refused(complaint: str) -> Exception:
 def certify(session: Session, run: Runner) -> None:
     """Compares, and takes the trace of the record over, which has its counts. Raises NotCertified, or Refused where the
     record is past a limit of the language."""
+    take_over(session, run)
+    compare('what the statements gave', run(session.spelt(telling=True).text), with_gifts(session))
+
+
+def take_over(session: Session, run: Runner) -> None:
+    """Takes over the trace of the record. Raises NotCertified where it is another than that of the run."""
     lines = run(session.spelt().text)
     compare('the trace', lines, session.trace)
-    compare('what the statements gave', run(session.spelt(telling=True).text), with_gifts(session))
     session.trace = lines
 
 

@@ -5,7 +5,8 @@ import sys
 from typing import Callable, Dict, List, NamedTuple, Optional, Sequence, Type
 
 from . import places, waits
-from .certificate import CERTIFIED, by_program, certify, find_program, limit
+from .by_model import by_model
+from .certificate import CERTIFIED, by_program, certify, find_program, limit, take_over
 from .decider import Decider, Options
 from .errors import LoopExit, NotCertified, Refused
 from .program import Program, own_words, run_program
@@ -29,6 +30,7 @@ Where the program's first line is `# run OPTIONS`, these stand before the others
 `certified by the proved program`, or why not. Status: the program's; 6 if a budget is spent, 8 past a limit of the
 machine, 9 if the proved program says otherwise than the run.
 """
+NOT_BUILT = 'a model in Python decided, which nothing proves, and the proved program is not built (./build makes it)'
 FLAGS = ('--trace', '--no-prints', '--no-certificate')
 NAMES = ('--record', '--picture', '--rules')       # --rules is for ./gvr beside: rules of gvr.beside that are turned
 NUMBERS = ('--turns', '--moves', '--tick', '--seed')
@@ -45,6 +47,10 @@ class Call(NamedTuple):
     record: Optional[str]
     picture: Optional[str]
     certificate: bool
+
+    def shows_trace(self) -> bool:
+        """Whether anybody sees the trace, whose last line has the counts of the record."""
+        return self.trace or self.record is not None or self.picture is not None
 
 
 def call_of(words: Sequence[str]) -> Call:
@@ -125,13 +131,12 @@ def tell(lines: List[str]) -> None:
 
 def certificate(call: Call, session: Session, status: int) -> 'tuple[str, int]':
     """The last line on standard error, and the status."""
-    program = find_program()
-    if not call.certificate:
-        return 'not certified: --no-certificate', status
-    if program is None:
-        return 'not certified: a model in Python decided, which nothing proves, and the proved program is not built ' \
-            '(./build makes it)', status
+    program = find_program() if call.certificate else None
     try:
+        if program is None:
+            if call.shows_trace():
+                take_over(session, by_model(session.options))
+            return 'not certified: ' + (NOT_BUILT if call.certificate else '--no-certificate'), status
         certify(session, by_program(program, session.options.words()))
     except Refused as e:
         return 'not certified: ' + limit(session.spelt(), e), status

@@ -7,8 +7,8 @@ START, VALUE, FAULT, STOP = 'start', 'value', 'fault', 'stop'
 
 
 class Next(NamedTuple):
-    """The lines of the trace that are new, who goes on, how (START, VALUE, FAULT or STOP), and with what: the value, the
-    fault, or the line of the stop."""
+    """The lines of the trace that are new, who goes on, how (START, VALUE, FAULT or STOP), and with what: the value,
+    the fault, or the line of the stop."""
     lines: Sequence[str]
     who: int
     kind: str

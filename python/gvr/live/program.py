@@ -4,6 +4,7 @@ import importlib
 import os
 import random
 import sys
+import types
 from typing import Any, Callable, Dict, List, NamedTuple, Optional, Sequence, Tuple
 
 from . import clock
@@ -78,8 +79,10 @@ def run_program(program: Program) -> Tuple[Session, Outcome]:
         run.on_failure = program.on_failure
     with open(program.path, encoding='utf-8') as f:
         code = compile(f.read(), program.path, 'exec')
-    names = {'__name__': '__main__', '__file__': program.path, '__builtins__': builtins}
+    module = types.ModuleType('__main__')
+    vars(module).update(__file__=program.path, __builtins__=builtins)
     before, printer = alias(), Printer()
+    before['__main__'], sys.modules['__main__'] = sys.modules['__main__'], module
     clock.install()
     random.seed(program.seed)
     sys.argv = [program.path, *program.arguments]
@@ -87,7 +90,7 @@ def run_program(program: Program) -> Tuple[Session, Outcome]:
     if program.prints:
         setattr(builtins, 'print', printer)
     try:
-        return run, run.run(lambda: exec(code, names))
+        return run, run.run(lambda: exec(code, vars(module)))
     finally:
         setattr(builtins, 'print', printer.real)
         sys.path.pop(0)

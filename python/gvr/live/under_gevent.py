@@ -7,12 +7,13 @@ Shows whether both print the same: always, in some runs (a race: it goes by the 
 line that differs, gvr's trace before it, and the rules by which gevent decides otherwise, where some explain it.
 Status 0 if the output and the status were the same in every run, 1 if in some, 9 if in none.
 """
+import json
 import os
 import subprocess
 import sys
 import tempfile
 from collections import Counter
-from typing import Dict, FrozenSet, List, NamedTuple, Optional, Sequence, Tuple
+from typing import Dict, List, NamedTuple, Optional, Sequence, Tuple
 
 LIMIT = 60                                       # seconds that gevent has for a run
 Output = Tuple[Tuple[str, ...], Optional[int]]   # the lines, and the status; None where the time was not enough
@@ -32,10 +33,10 @@ class Ran(NamedTuple):
 
 
 def environment(**more: str) -> Dict[str, str]:
-    """That of this process, with this package to be found."""
+    """That of this process, with this package to be found, and with one order of sets of strings."""
     root = os.path.abspath(os.path.join(os.path.dirname(__file__), os.pardir, os.pardir))
     before = os.environ.get('PYTHONPATH')
-    return {**os.environ, 'PYTHONPATH': root + (os.pathsep + before if before else ''), **more}
+    return {**os.environ, 'PYTHONPATH': root + (os.pathsep + before if before else ''), 'PYTHONHASHSEED': '0', **more}
 
 
 def call(words: Sequence[str], env: Dict[str, str], limit: Optional[float] = None) -> Output:
@@ -51,12 +52,11 @@ def call(words: Sequence[str], env: Dict[str, str], limit: Optional[float] = Non
     return tuple(said.decode('utf-8', 'replace').splitlines()), status
 
 
-def under_gvr(command: Sequence[str], rules: Sequence[str] = ()) -> Ran:
-    """The program under gvr, or under a machine in which some rules are turned."""
+def under_gvr(command: Sequence[str]) -> Ran:
+    """The program under gvr."""
     with tempfile.TemporaryDirectory() as folder:
         name = os.path.join(folder, 'run')
-        turned = ['--rules', ','.join(rules)] if rules else []
-        words = [sys.executable, '-m', 'gvr.live', '--no-certificate', '--record', name, *turned, *command]
+        words = [sys.executable, '-m', 'gvr.live', '--no-certificate', '--record', name, *command]
         output = call(words, environment())
         trace: List[str] = []
         if os.path.exists(name + '.trace'):
@@ -82,11 +82,10 @@ def first_difference(ours: Sequence[str], theirs: Sequence[str]) -> Optional[int
 def rules_that_explain(command: Sequence[str], theirs: Output) -> Optional[Sequence[str]]:
     """The smallest set of rules under which gvr's machine lets the program print what gevent let it print; None if
     there is none."""
-    from ..beside.rules import explain
-
-    def agrees(rules: FrozenSet[str]) -> bool:
-        return under_gvr(command, sorted(rules)).output == theirs
-    found: Optional[Sequence[str]] = explain(agrees)
+    asked = json.dumps({'command': list(command), 'lines': list(theirs[0]), 'status': theirs[1]})
+    done = subprocess.run([sys.executable, '-m', 'gvr.live.explained'], input=asked, stdout=subprocess.PIPE,
+                          env=environment(), universal_newlines=True, check=True)
+    found: Optional[Sequence[str]] = json.loads(done.stdout)
     return found
 
 
@@ -131,11 +130,8 @@ def report(asked: Asked) -> int:
 
 def explanation(asked: Asked, theirs: Output, is_race: bool) -> List[str]:
     """The rules by which gevent decides otherwise, each with what it says."""
-    try:
-        rules = rules_that_explain(asked.command, theirs)
-        from ..beside.rules import meaning
-    except ImportError:
-        return ['  the rules of gvr.beside are not there']
+    from ..beside.rules import meaning
+    rules = rules_that_explain(asked.command, theirs)
     if rules is None:
         why = 'the order went by the real time' if is_race else 'it may go by the real time: try --scale 4'
         return ['  no rule explains it; ' + why]

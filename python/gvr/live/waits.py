@@ -97,7 +97,8 @@ def about_lock(session: Session, name: str) -> List[str]:
             held.setdefault(done.body, []).append(done.statement)
         elif done.word == 'release' and held.get(done.body):
             held[done.body].pop()
-    lines = ['%s is held by %s%s  %s' % (name, who(session, body.number or 0), is_over(session, body), told(taken.place))
+    lines = ['%s is held by %s%s  %s' % (name, who(session, body.number or 0), is_over(session, body),
+                                         told(taken.place))
              for body, all_of_them in held.items() for taken in all_of_them]
     return lines or ['%s was not released' % name]
 
@@ -115,7 +116,8 @@ def counted(session: Session, name: str, word: str) -> str:
             counts[number] = counts.get(number, 0) + 1
     total = sum(counts.values())
     times = 'once' if total == 1 else '%d times' % total
-    return '%s: %s' % (times, ', '.join('%s %d' % (who(session, n), k) for n, k in counts.items())) if total else 'never'
+    each = ', '.join('%s %d' % (who(session, n), k) for n, k in counts.items())
+    return '%s: %s' % (times, each) if total else 'never'
 
 
 def about_queue(session: Session, name: str) -> List[str]:
@@ -148,7 +150,8 @@ def about_fault(session: Session, exception: BaseException) -> List[str]:
         return []
     made = [done for done in history(session, words[1]) if done.word == words[0]]
     lines = ['the last calls on %s that were right:' % words[1]] if made else ['nobody did so before']
-    return lines + ['  %s  %s' % (who(session, done.body.number or 0), told(done.statement.place)) for done in made[-3:]]
+    return lines + ['  %s  %s' % (who(session, done.body.number or 0), told(done.statement.place))
+                    for done in made[-3:]]
 
 
 # -------------------------------------------------------------------- who spun

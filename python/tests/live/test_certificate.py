@@ -3,7 +3,9 @@ import unittest
 from typing import Any
 from unittest import mock
 
+import gvr.gevent as gevent
 from gvr.gevent import event, queue
+from gvr.live import waits
 from gvr.live.by_model import by_model
 from gvr.live.certificate import certify, compare, find_program, by_program, limit, refused
 from gvr.live.decider import Options
@@ -66,6 +68,17 @@ class Certificate(unittest.TestCase):
         self.assertTrue(told.startswith('the record is past a limit of the language: '), told)
         # The record has no line before its declarations: the 257th of them is line 257.
         self.assertIn('line 257 of it: event made_257, at test_certificate.py:', told)
+
+    def test_past_a_limit_of_the_machine(self) -> None:
+        def main() -> None:
+            for _ in range(3):
+                gevent.spawn(gevent.sleep, 1)
+        with mock.patch('gvr.model.bodies.MOST_GREENLETS', 3):
+            session = run(main)
+        self.assertEqual(str(session.stopped).split(' turns')[0], 'stop no-greenlets')
+        told = waits.at_limit(session)
+        self.assertEqual(len(told), 1)
+        self.assertTrue(told[0].startswith('g0 main: spawn sleep_4  at test_certificate.py:'), told)
 
     def test_complaints_of_the_program(self) -> None:
         self.assertIsInstance(refused('gvr: line 3: reason 22: more than the language has'), Refused)

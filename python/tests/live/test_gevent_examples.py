@@ -1,4 +1,4 @@
-"""The programs of examples/gevent, unchanged, under the façade: what each prints is what gvr prints for its scenario."""
+"""The programs of examples/gevent, unchanged, under the façade: each prints what gvr prints for its scenario."""
 import contextlib
 import glob
 import io
@@ -20,7 +20,12 @@ EXAMPLES = os.path.join(HERE, *[os.pardir] * 3, 'examples', 'gevent')
 # Those that print otherwise, and why.
 OTHERWISE: Dict[str, str] = {
     'joinall_count_order': "gevent's joinall promises the order of readiness, which the façade keeps; gvr's statement "
-                           "gives the order of the list"}
+                           "gives the order of the list",
+    'count_stops': "gevent's joinall answers with count greenlets at most, and so does the façade; gvr's statement "
+                   "gives all that have ended",
+    'killall_late': "gevent's killall promises to raise its Timeout, which the façade does; gvr's statement goes on",
+    'job_last': "the façade's ThreadPool posts a job by a greenlet of its own, whose end comes a turn after the job's",
+    'one_job_more': "and so it is that greenlet, and not who spawns, that waits for a slot"}
 
 
 def words_of(scenario: str) -> List[str]:

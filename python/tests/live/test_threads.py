@@ -1,4 +1,5 @@
 """Under patch_all threading and queue are the run's: what Python's own library promises of them."""
+import concurrent.futures
 import queue
 import threading
 import time
@@ -126,6 +127,19 @@ class Threads(unittest.TestCase):
             except Unsupported:
                 say('no tasks')
         self.says(main, 0, 1, 2, 3, (True, 0.04), 'empty', (1, 'a'), 'no tasks')
+
+    def test_classes_of_the_program_and_of_the_library(self) -> None:
+        def main(say: Say) -> None:
+            class Own(queue.Queue):              # type: ignore[type-arg]
+                def double(self) -> None:
+                    self.put(self.get() * 2)
+            own = Own(maxsize=3)
+            own.put(4)
+            own.double()
+            say((own.get(), own.maxsize, isinstance(own, queue.Queue)))
+            with concurrent.futures.ThreadPoolExecutor(1) as executor:
+                say(executor._work_queue is not None)
+        self.says(main, (8, 3, True), True)
 
     def test_outside_of_a_run_they_are_the_real_ones(self) -> None:
         real = threading.Lock

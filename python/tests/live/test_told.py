@@ -1,4 +1,4 @@
-"""What the command says: of a run that stands still, that spins, that raises, that is past a limit, and of its verdict."""
+"""What the command says of a run that stands still, that spins, that raises, that is past a limit, and its verdict."""
 import os
 import subprocess
 import sys
@@ -88,10 +88,41 @@ class Said(unittest.TestCase):
         self.assertEqual(self.program('raise KeyError(5)\n', '--no-certificate')[0], 1)
         self.assertEqual(self.program('import gevent.socket\n', '--no-certificate')[0], 1)
 
+    def test_it_is_the_main_module(self) -> None:
+        text = ('import pickle\nclass A:\n    pass\n'
+                'print(type(pickle.loads(pickle.dumps(A()))) is A, __name__, __file__[-3:])\n')
+        self.assertEqual(self.program(text, '--no-certificate')[:2], (0, 'True __main__ .py\n'))
+
     def test_no_program(self) -> None:
         status, _, said = self.program('print(1)\n', GVR=NO_PROGRAM)
         self.assertEqual(status, 9)
         self.assertTrue(said[-1].startswith('not certified: '), said)
+
+    def test_certified(self) -> None:
+        """By whatever program GVR names; here the model stands in its place."""
+        with tempfile.TemporaryDirectory() as folder:
+            program = os.path.join(folder, 'gvr')
+            with open(program, 'w', encoding='utf-8') as f:
+                f.write('#!/bin/sh\nexec %s -m gvr.model "$@"\n' % sys.executable)
+            os.chmod(program, 0o755)
+            text = 'import gevent\ng = gevent.spawn(print, 1)\ng.join()\nraise SystemExit(4)\n'
+            status, out, said = self.program(text, '--tick', '1', GVR=program)
+            self.assertEqual((status, out, said[-1]), (4, '1\n', 'certified by the proved program'))
+            many = 'from gevent.event import Event\n' + 'many = [Event() for _ in range(257)]\n'
+            status, out, said = self.program(many, GVR=program)
+        self.assertEqual((status, len(said)), (0, 1))
+        self.assertTrue(said[0].startswith('not certified: the record is past a limit of the language: '), said)
+        self.assertIn('line 257 of it: event many_257, at program.py:2 in ', said[0])
+
+    def test_without_greenlet(self) -> None:
+        with tempfile.TemporaryDirectory() as folder:
+            with open(os.path.join(folder, 'greenlet.py'), 'w', encoding='utf-8') as f:
+                f.write('raise ImportError\n')
+            environment = {**os.environ, 'PYTHONPATH': folder + os.pathsep + PYTHON}
+            done = subprocess.run([sys.executable, '-m', 'gvr.live', 'program.py'], stderr=subprocess.PIPE,
+                                  universal_newlines=True, env=environment)
+        self.assertEqual(done.returncode, 1)
+        self.assertIn('python3-greenlet', done.stderr)
 
     def test_files(self) -> None:
         with tempfile.TemporaryDirectory() as folder:

@@ -10,7 +10,7 @@ from gevent.event import AsyncResult, Event      # noqa: F401
 from gevent.exceptions import LoopExit           # noqa: F401
 from gevent.lock import BoundedSemaphore, RLock, Semaphore      # noqa: F401
 from gevent.pool import Group, Pool              # noqa: F401
-from gevent.queue import (Empty, Full, JoinableQueue, LifoQueue, PriorityQueue, Queue)      # noqa: F401
+from gevent.queue import (Channel, Empty, Full, JoinableQueue, LifoQueue, PriorityQueue, Queue)      # noqa: F401
 from gevent.threadpool import ThreadPool         # noqa: F401
 
 MS = 0.001
