@@ -142,7 +142,8 @@ class Said(unittest.TestCase):
 
     def test_help(self) -> None:
         status, out, said = live(['--help'])
-        self.assertEqual((status, out.split('\n')[0], said), (0, 'usage: ./gvr live [options] PROGRAM.py [argument..]', []))
+        first = 'usage: ./gvr live [options] PROGRAM.py [argument..]'
+        self.assertEqual((status, out.split('\n')[0], said), (0, first, []))
 
     def test_words(self) -> None:
         for words in ([], ['--turns'], ['--turns', 'x', 'a.py'], ['--nosuch', 'a.py'], ['no_such_file.py']):
