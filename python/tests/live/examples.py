@@ -97,19 +97,12 @@ def verify(record: str, trace: str) -> Answer:
     return answer(["verify"], f"{record}====\n{trace}")
 
 
-def without_moves(trace: str) -> str:
-    """The trace without its count of moves. The record has some statements more than the program, so the two agree on it
-    only after the record was run."""
-    return re.sub(r" moves \d+\n\Z", "\n", trace)
-
-
 def differences(name: str, ran: Ran) -> List[str]:
     """What differs between a run and what stands beside the program."""
     told = []
-    for kind, came in (("out", ran.output), ("gvr", ran.record), ("trace", without_moves(ran.trace))):
+    for kind, came in (("out", ran.output), ("gvr", ran.record), ("trace", ran.trace)):
         file = LIVE / f"{name}.{kind}"
-        wanted = file.read_text() if file.is_file() else None
-        if came != (without_moves(wanted) if wanted and kind == "trace" else wanted):
+        if not file.is_file() or file.read_text() != came:
             told.append(f"examples/live/{name}.{kind} is not what the run has")
     if PROGRAM.is_file() and CERTIFIED not in ran.said:
         told.append(f"examples/live/{name}.py: the run is not certified: {ran.said.strip()[-300:]}")
@@ -148,7 +141,7 @@ def compare_with_gevent(chosen: List[str], runs: int, scale: int = 4) -> List[st
 def write(chosen: List[str]) -> None:
     for name, ran in run_all(chosen).items():
         (LIVE / f"{name}.gvr").write_text(ran.record)
-        (LIVE / f"{name}.trace").write_text(replay(ran.record).output)
+        (LIVE / f"{name}.trace").write_text(ran.trace)
 
 
 def options(words: List[str]) -> Tuple[List[str], List[str]]:
