@@ -139,7 +139,10 @@ def compare_with_gevent(chosen: List[str], runs: int, scale: int = 4) -> List[st
 
 
 def write(chosen: List[str]) -> None:
+    """Writes record and trace beside each program whose output is the one that stands there."""
     for name, ran in run_all(chosen).items():
+        if ran.output != (LIVE / f"{name}.out").read_text():
+            continue
         (LIVE / f"{name}.gvr").write_text(ran.record)
         (LIVE / f"{name}.trace").write_text(ran.trace)
 
