@@ -11,7 +11,7 @@ import subprocess
 import sys
 import tempfile
 from concurrent.futures import ThreadPoolExecutor
-from typing import Callable, List, NamedTuple, Tuple
+from typing import List, NamedTuple, Tuple
 
 TOP = pathlib.Path(__file__).resolve().parents[3]
 LIVE = TOP / "examples/live"
@@ -157,17 +157,16 @@ def options(words: List[str]) -> Tuple[List[str], List[str]]:
 def main() -> int:
     told, chosen = options(sys.argv[1:])
     chosen = chosen or names()
-    say: Callable[[str], None] = print
     if told[:1] == ["--gevent"]:
         for line in compare_with_gevent(chosen, int(told[1])):
-            say(line)
+            print(line)
         return 0
     if told == ["--write"]:
         write(chosen)
     wrong = [line for name, ran in run_all(chosen).items() for line in differences(name, ran)]
     for line in wrong:
-        say(line)
-    say(f"check_live: {len(chosen)} programs: {max(0, len(chosen) - len(wrong))} passed, {len(wrong)} failed")
+        print(line)
+    print(f"check_live: {len(chosen)} programs: {max(0, len(chosen) - len(wrong))} passed, {len(wrong)} failed")
     return int(bool(wrong))
 
 
