@@ -56,7 +56,7 @@ def parser() -> argparse.ArgumentParser:
     hunting.add_argument('--out', metavar='DIR', help='a folder for the smallest cases and the counts (hunt.json)')
     hunting.add_argument('--most-rules', type=int, default=1, help='classes of at most so many rules are minimised')
     hunting.add_argument('--processes', type=int, default=os.cpu_count() or 1, metavar='N')
-    hunting.add_argument('--on', metavar='ADDRESS', help='a dask cluster in place of processes here')
+    hunting.add_argument('--on', metavar='ADDRESS', help='a dask cluster in place of processes here; its workers need python/ on their path')
     return p
 
 
