@@ -83,17 +83,14 @@ class StaleWake(Rule):
         return item.kind == 'wake' and item.parked.kind in ('qjoin', 'gjoin') or super().stays_ready(item)
 
 
-class KillerFirst(Rule):
-    name, root = 'killer_first', '3'
-    says = 'a killer goes on in the call that threw, before links and joiners'
-    source = 'gevent/greenlet.py, _kill and _killall3: waiter.switch stands right behind throw'
+class Batches(Rule):
+    """What the two rules on killers share: which kills are those of one statement, and who waits for them."""
 
     def __init__(self, *arguments: Any) -> None:
         super().__init__(*arguments)
         self.batch = 0                                     # the kills of one statement
         self.batch_of: Dict[int, int] = {}                 # since of a kill: its batch
         self.killer: Dict[int, int] = {}                   # a batch: since of the Wake of who waits for it
-        self.places: Dict[int, int] = {}                   # since of such a Wake: the place of the last kill
 
     def killed(self, g: Greenlet, st: Statement, wait: Wait, fault: Fault) -> Effect:
         self.batch += 1
@@ -107,9 +104,6 @@ class KillerFirst(Rule):
         self.batch_of[self.next_since] = self.batch
         super().hit(target, fault)
 
-    def place_of(self, item: Item) -> int:
-        return self.places[item.since] + 1 if item.since in self.places else super().place_of(item)
-
     def is_last_of_batch(self, item: Item) -> bool:
         batch = self.batch_of[item.since]
         return not any(x.kind == 'kill' and x is not item and x.since > item.since and self.batch_of[x.since] == batch
@@ -120,6 +114,19 @@ class KillerFirst(Rule):
         if item.kind != 'kill' or not self.is_last_of_batch(item):
             return None
         return self.killer.get(self.batch_of[item.since])
+
+
+class KillerFirst(Batches):
+    name, root = 'killer_first', '3'
+    says = 'a killer goes on in the call that threw, before links and joiners'
+    source = 'gevent/greenlet.py, _kill and _killall3: waiter.switch stands right behind throw'
+
+    def __init__(self, *arguments: Any) -> None:
+        super().__init__(*arguments)
+        self.places: Dict[int, int] = {}                   # since of a killer's Wake: the place of the last kill
+
+    def place_of(self, item: Item) -> int:
+        return self.places[item.since] + 1 if item.since in self.places else super().place_of(item)
 
     def end(self, g: Greenlet, outcome: Outcome) -> None:
         for item in g.own.values():
@@ -134,6 +141,24 @@ class KillerFirst(Rule):
         if killer is not None and killer in self.items and self.holds(self.items[killer]):
             self.items[killer].ready = None
             self.deliver(self.items[killer])
+
+
+class KillerJoinsLate(Batches):
+    name, root = 'killer_joins_late', '3'
+    says = 'a killer whose target goes on joins it when the throw is done, behind those that joined before'
+    source = 'gevent/greenlet.py, Greenlet.kill and killall: join and joinall stand behind waiter.get'
+
+    def deliver(self, item: Item) -> None:
+        killer = self.killer_behind(item)
+        super().deliver(item)
+        if killer is not None and killer in self.items and not self.holds(self.items[killer]):
+            self.join_anew(self.items[killer])
+
+    def join_anew(self, wake: Item) -> None:
+        """The wait begins once more, behind all others."""
+        del self.items[wake.since], wake.greenlet.own[wake.since]
+        wake.since, self.next_since = self.next_since, self.next_since + 1
+        self.items[wake.since] = wake.greenlet.own[wake.since] = wake
 
 
 class SharedNotify(Rule):
