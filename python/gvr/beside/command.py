@@ -293,7 +293,7 @@ def main(words: Optional[Sequence[str]] = None) -> int:
     given_words = list(sys.argv[1:] if words is None else words)
     is_show = bool(given_words) and given_words[0] not in (*WORDS, '-h', '--help')
     try:
-        if is_show and any(word.endswith('.py') for word in given_words):
+        if is_show and any(word.endswith('.py') and before != '--adapter' for before, word in zip([''] + given_words, given_words)):
             return under_gevent(given_words)
         given = parser().parse_intermixed_args((['show'] if is_show else []) + given_words or ['--help'])
         return DOES[given.what](given)
