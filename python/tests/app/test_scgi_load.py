@@ -120,12 +120,17 @@ class Holding(unittest.TestCase):
         with program("scgi_apps:echo", "--threads", "4") as (run, port):
             for _ in range(200):
                 ask(port)
+            time.sleep(0.5)
             before = held_by(run)
             for at in range(REQUESTS):
                 if at % 4:
                     ask(port, message(b"x" * 1000, "POST"))
                 else:
                     break_off(port)
+            ends = time.monotonic() + 10
+            while held_by(run)[0] != before[0] and time.monotonic() < ends:
+                # The last one is being closed.
+                time.sleep(0.05)
             after = held_by(run)
         self.assertEqual(after[0], before[0])
         self.assertLess(after[1] - before[1], 2048)
