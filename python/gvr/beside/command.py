@@ -1,13 +1,14 @@
 """The command `gvr beside`: words in, a report on standard output, a status."""
 import argparse
+import collections
 import importlib
 import json
 import os
 import sys
-from typing import Any, Callable, Dict, FrozenSet, List, Optional, Sequence, Tuple
+from typing import Any, Callable, Counter, Dict, FrozenSet, List, Optional, Sequence, Tuple
 
 from .as_python import NotWritten, program
-from .compare import Part, Task, close_sides, sides_of, verdicts
+from .compare import Part, Task, Verdict, close_sides, sides_of, verdicts
 from .events import LEVELS, Difference, Event, is_compared, outcome, views, void
 from .generate import WIDE
 from .hunt import Found, Hunt, Progress, cluster, parts, processes, tell_error, write
@@ -55,7 +56,7 @@ def parser() -> argparse.ArgumentParser:
     hunting.add_argument('--out', metavar='DIR', help='a folder for the smallest cases and the counts (hunt.json)')
     hunting.add_argument('--most-rules', type=int, default=1, help='classes of at most so many rules are minimised')
     hunting.add_argument('--processes', type=int, default=os.cpu_count() or 1, metavar='N')
-    hunting.add_argument('--on', metavar='ADDRESS', help='a dask cluster in place of processes here')
+    hunting.add_argument('--on', metavar='ADDRESS', help='a dask cluster in place of processes here; its workers need python/ on their path')
     return p
 
 
@@ -195,25 +196,27 @@ def under_gevent(words: Sequence[str]) -> int:
 # ------------------------------------------------------------ check, hunt, and the small ones
 
 
+def said_of(found: Verdict) -> str:
+    """What `check` says of a scenario."""
+    if found.kind != 'different':
+        return found.kind
+    return 'differs in %s: %s' % (LEVELS[found.level], 'no rule explains it' if found.rules is None else ' '.join(found.rules))
+
+
 def check(given: argparse.Namespace) -> int:
-    """A line for each scenario; 1 if one differs."""
+    """A line for each scenario; 1 if one differs, is refused, or ends the adapter."""
     task = task_of(given)
     sides = sides_of(task)
-    counts: Dict[str, int] = {}
+    counts: Counter[str] = collections.Counter()
     for path in given.files:
         deaths = len(sides.theirs.deaths)
         found = verdicts(task, sides, [(path, read(path))])[0]
         for death in sides.theirs.deaths[deaths:]:
             tell_error('%s: the adapter died and was started anew: %s' % (path, death))
-        said = found.kind
-        if found.kind == 'different':
-            said = 'differs in %s: %s' % (LEVELS[found.level], 'no rule explains it' if found.rules is None
-                                          else ' '.join(found.rules))
-        kind = found.kind.split(':')[0]
-        counts[kind] = counts.get(kind, 0) + 1
-        print('%-44s %s' % (os.path.basename(path), said), flush=True)
+        counts[found.kind] += 1
+        print('%-44s %s' % (os.path.basename(path), said_of(found)), flush=True)
     print(', '.join('%d %s' % (count, kind) for kind, count in sorted(counts.items())))
-    return 1 if counts.get('different') or counts.get('refused') or 'died' in counts else 0
+    return 1 if any(counts[kind] for kind in ('different', 'refused', 'void: died')) else 0
 
 
 def told_found(found: Found) -> List[str]:
@@ -290,7 +293,7 @@ def main(words: Optional[Sequence[str]] = None) -> int:
     given_words = list(sys.argv[1:] if words is None else words)
     is_show = bool(given_words) and given_words[0] not in (*WORDS, '-h', '--help')
     try:
-        if is_show and any(word.endswith('.py') for word in given_words):
+        if is_show and any(word.endswith('.py') and before != '--adapter' for before, word in zip([''] + given_words, given_words)):
             return under_gevent(given_words)
         given = parser().parse_intermixed_args((['show'] if is_show else []) + given_words or ['--help'])
         return DOES[given.what](given)

@@ -7,7 +7,7 @@ import subprocess
 import sys
 import tempfile
 import threading
-from typing import IO, Any, Dict, FrozenSet, Iterable, List, NamedTuple, Optional, Sequence, Tuple
+from typing import IO, FrozenSet, Iterable, List, NamedTuple, Optional, Sequence, Tuple
 
 from ..model import IndexedMachine, Line, Refused, Scenario, ScriptWorld, read
 from .events import Event, Run, from_trace
@@ -243,9 +243,3 @@ class Sides(NamedTuple):
 
     def model(self, text: str, scenario: Optional[Scenario], rules: Iterable[str] = ()) -> Run:
         return self.gvr.run(text, scenario, self.intended | frozenset(rules))
-
-
-def as_dict(sides: Sides) -> Dict[str, Any]:
-    """What is needed to make these sides again, in another process."""
-    return {'words': sides.theirs.words, 'limits': sides.gvr.limits, 'program': sides.gvr.program,
-            'intended': sides.intended}

@@ -87,6 +87,9 @@ def turned(rules: str) -> Callable[[Record, Options], Decider]:
 
 def main(words: Sequence[str]) -> int:
     """Runs the command; its status."""
+    if list(words[:1]) in (['--help'], ['-h']):
+        sys.stdout.write(USAGE)
+        return 0
     try:
         call = call_of([*own_words(list(words)), *words])
     except (Usage, OSError) as e:

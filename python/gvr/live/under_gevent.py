@@ -154,6 +154,9 @@ def asked_of(words: Sequence[str]) -> Asked:
 
 def main(words: Sequence[str]) -> int:
     """The command."""
+    if list(words[:1]) in (['--help'], ['-h']):
+        sys.stdout.write(__doc__ or '')
+        return 0
     try:
         asked = asked_of(words)
     except ValueError as e:

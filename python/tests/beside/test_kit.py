@@ -3,6 +3,7 @@ import contextlib
 import io
 import json
 import os
+import shlex
 import subprocess
 import sys
 import tempfile
@@ -28,6 +29,15 @@ sys.stdin.readline()
 print('{"ev":"stop","out":"value none"}\\n{"ev":"over"}', flush=True)
 sys.stdin.readline()
 sys.exit('out of luck')
+'''
+# An adapter for HELLO alone.
+ANSWERS = '''import sys
+for line in sys.stdin:
+    print('{"ev":"start","g":0,"f":"main"}')
+    print('{"ev":"print","g":0,"v":"1"}')
+    print('{"ev":"end","g":0,"out":"value none"}')
+    print('{"ev":"stop","out":"value none"}')
+    print('{"ev":"over"}', flush=True)
 '''
 
 
@@ -197,6 +207,24 @@ class Command(unittest.TestCase):
             status, _, complaint = command(*words)
             self.assertEqual(status, 3, words)
             self.assertIn(said, complaint)
+
+    def test_check_says_each_and_its_status(self) -> None:
+        good, bad, dies = ([sys.executable, '-c', script] for script in (ANSWERS, ANSWERS.replace('1', '2'), 'input()'))
+        path = self.file(HELLO)
+        status, said, _ = command('check', path, '--adapter', shlex.join(good))
+        self.assertEqual((status, said.split('\n')[-2]), (0, '1 same'))
+        status, said, _ = command('check', path, '--adapter', shlex.join(bad))
+        self.assertEqual(status, 1)
+        self.assertIn('differs in prints and end: no rule explains it', said)
+        self.assertEqual(command('check', path, '--adapter', shlex.join(dies))[0], 3)
+        self.assertEqual(command('check', self.file('def\n'), '--adapter', shlex.join(good))[0], 1)
+
+    def test_show_tells_the_first_difference(self) -> None:
+        bad = shlex.join([sys.executable, '-c', ANSWERS.replace('1', '2')])
+        status, said, _ = command(self.file(HELLO), '--adapter', bad)
+        self.assertEqual(status, 1)
+        self.assertIn('first difference: runtime has `print g0 2`, gvr has `print g0 1`', said)
+        self.assertIn('gvr at line 2: print 1', said)
 
     def test_a_word_that_is_wrong(self) -> None:
         with self.assertRaises(SystemExit) as ended:

@@ -11,7 +11,7 @@ import subprocess
 import sys
 import tempfile
 from concurrent.futures import ThreadPoolExecutor
-from typing import Callable, List, NamedTuple, Tuple
+from typing import List, NamedTuple, Tuple
 
 TOP = pathlib.Path(__file__).resolve().parents[3]
 LIVE = TOP / "examples/live"
@@ -97,19 +97,12 @@ def verify(record: str, trace: str) -> Answer:
     return answer(["verify"], f"{record}====\n{trace}")
 
 
-def without_moves(trace: str) -> str:
-    """The trace without its count of moves. The record has some statements more than the program, so the two agree on it
-    only after the record was run."""
-    return re.sub(r" moves \d+\n\Z", "\n", trace)
-
-
 def differences(name: str, ran: Ran) -> List[str]:
     """What differs between a run and what stands beside the program."""
     told = []
-    for kind, came in (("out", ran.output), ("gvr", ran.record), ("trace", without_moves(ran.trace))):
+    for kind, came in (("out", ran.output), ("gvr", ran.record), ("trace", ran.trace)):
         file = LIVE / f"{name}.{kind}"
-        wanted = file.read_text() if file.is_file() else None
-        if came != (without_moves(wanted) if wanted and kind == "trace" else wanted):
+        if not file.is_file() or file.read_text() != came:
             told.append(f"examples/live/{name}.{kind} is not what the run has")
     if PROGRAM.is_file() and CERTIFIED not in ran.said:
         told.append(f"examples/live/{name}.py: the run is not certified: {ran.said.strip()[-300:]}")
@@ -146,9 +139,12 @@ def compare_with_gevent(chosen: List[str], runs: int, scale: int = 4) -> List[st
 
 
 def write(chosen: List[str]) -> None:
+    """Writes record and trace beside each program whose output is the one that stands there."""
     for name, ran in run_all(chosen).items():
+        if ran.output != (LIVE / f"{name}.out").read_text():
+            continue
         (LIVE / f"{name}.gvr").write_text(ran.record)
-        (LIVE / f"{name}.trace").write_text(replay(ran.record).output)
+        (LIVE / f"{name}.trace").write_text(ran.trace)
 
 
 def options(words: List[str]) -> Tuple[List[str], List[str]]:
@@ -161,17 +157,16 @@ def options(words: List[str]) -> Tuple[List[str], List[str]]:
 def main() -> int:
     told, chosen = options(sys.argv[1:])
     chosen = chosen or names()
-    say: Callable[[str], None] = print
     if told[:1] == ["--gevent"]:
         for line in compare_with_gevent(chosen, int(told[1])):
-            say(line)
+            print(line)
         return 0
     if told == ["--write"]:
         write(chosen)
     wrong = [line for name, ran in run_all(chosen).items() for line in differences(name, ran)]
     for line in wrong:
-        say(line)
-    say(f"check_live: {len(chosen)} programs: {max(0, len(chosen) - len(wrong))} passed, {len(wrong)} failed")
+        print(line)
+    print(f"check_live: {len(chosen)} programs: {max(0, len(chosen) - len(wrong))} passed, {len(wrong)} failed")
     return int(bool(wrong))
 
 

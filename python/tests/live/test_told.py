@@ -140,6 +140,11 @@ class Said(unittest.TestCase):
         self.assertEqual(trace[0], 'start g0 main')
         self.assertEqual([line for line in said if line in trace][-len(trace):], trace)
 
+    def test_help(self) -> None:
+        status, out, said = live(['--help'])
+        first = 'usage: ./gvr live [options] PROGRAM.py [argument..]'
+        self.assertEqual((status, out.split('\n')[0], said), (0, first, []))
+
     def test_words(self) -> None:
         for words in ([], ['--turns'], ['--turns', 'x', 'a.py'], ['--nosuch', 'a.py'], ['no_such_file.py']):
             status, out, said = live(words)

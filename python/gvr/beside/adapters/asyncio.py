@@ -9,22 +9,39 @@ asyncio's own (SelectorEventLoop) over a virtual clock.
 """
 import argparse
 import asyncio
+import functools
 import selectors
 from asyncio import CancelledError
+from typing import Any, Awaitable, Callable, Dict, List, NoReturn, Optional, Set, TextIO, Tuple, Type
 
-from .protocol import (G, PLAIN, Budget, Err, Evaluator, Fault, Log, Unsupported, catches, kind_of, serve, truth, value_text)
+from .protocol import (PLAIN, Budget, Err, Evaluator, Fault, G, Log, Unsupported, Value, catches, kind_of, serve,
+                       serve_options, truth, value_text)
 
-EXC = dict(PLAIN, GreenletExit=CancelledError, Empty=asyncio.QueueEmpty, Full=asyncio.QueueFull)
+Tree = Dict[str, Any]
+Names = Dict[str, Value]
+
+EXC: Dict[str, Type[BaseException]] = dict(PLAIN, GreenletExit=CancelledError, Empty=asyncio.QueueEmpty, Full=asyncio.QueueFull)
 QUEUES = {'fifo': asyncio.Queue, 'join': asyncio.Queue, 'lifo': asyncio.LifoQueue, 'prio': asyncio.PriorityQueue}
 VOID = (Budget, Unsupported)
 MS = 1 / 1024
 
 
+TIMEOUT: Any = getattr(asyncio, 'timeout', None)          # since Python 3.11
+
+
+class NumberedTimeout(TimeoutError):
+    """The TimeoutError of a block, or of a wait, with the number that the scenario knows it by."""
+
+    def __init__(self, number: int) -> None:
+        super().__init__()
+        self.number = number
+
+
 class Clock(selectors.SelectSelector):
     """Waits by moving the loop's clock."""
-    loop = None
+    loop: 'VirtualLoop'
 
-    def select(self, timeout=None):
+    def select(self, timeout: Optional[float] = None) -> List[Tuple[selectors.SelectorKey, int]]:
         if timeout is None:
             self.loop.hangs = True
             self.loop.stop()
@@ -34,64 +51,74 @@ class Clock(selectors.SelectSelector):
 
 
 class VirtualLoop(asyncio.SelectorEventLoop):
-    def __init__(self):
+    """asyncio's own loop over that clock."""
+
+    def __init__(self) -> None:
         selector = Clock()
         selector.loop = self
         self.clock, self.hangs, self.iteration, self.timers = 0.0, False, 0, 0
         super().__init__(selector)
         self._clock_resolution = 2.0 ** -20
 
-    def time(self):
+    def time(self) -> float:
         return self.clock
 
-    def call_at(self, when, callback, *args, context=None):
+    def call_at(self, when: float, callback: Callable[..., object], *args: Any, context: Any = None) -> asyncio.TimerHandle:
         self.timers += 1                       # the heap keeps no order of equal deadlines; here they keep that of making
         return super().call_at(when + self.timers * 2.0 ** -40, callback, *args, context=context)
 
-    def _run_once(self):
+    def _run_once(self) -> None:
         self.iteration += 1
-        super()._run_once()
+        super()._run_once()  # type: ignore[misc]
 
 
 class Run:
-    def __init__(self, tree, args):
-        self.args, self.log, self.moves = args, Log(), 0
-        self.fns = {f['name']: f for f in tree['functions']}
+    """One run."""
+
+    def __init__(self, tree: Tree, options: argparse.Namespace) -> None:
+        self.options, self.log, self.moves = options, Log(), 0
+        self.fns: Dict[str, Tree] = {f['name']: f for f in tree['functions']}
         self.eval_ = Evaluator(self)
         self.loop = VirtualLoop()
         asyncio.set_event_loop(self.loop)
         self.loop.set_exception_handler(lambda loop, context: None)
-        self.tasks, self.number_of, self.begun, self.outcomes = [], {}, set(), {}
-        self.timeouts, self.links, self.owner, self.void = 0, 0, {}, None
-        self.objects = {o['name']: self.make(o) for o in tree['objects']}
-        self.kinds = {o['name']: o for o in tree['objects']}
+        self.tasks: List['asyncio.Task[Any]'] = []
+        self.number_of: Dict[int, int] = {}
+        self.begun: Set[int] = set()
+        self.outcomes: Dict[int, Tuple[str, Value]] = {}
+        self.timeouts = self.links = 0
+        self.owner: Dict[int, Optional[int]] = {}
+        self.void: Optional[str] = None
+        self.objects: Dict[str, Any] = {o['name']: self.make(o) for o in tree['objects']}
+        self.kinds: Dict[str, Tree] = {o['name']: o for o in tree['objects']}
 
-    def make(self, o):
-        kind, n = o['kind'], o.get('n')
+    def make(self, o: Tree) -> Any:
+        kind, n = o['kind'], o.get('n') or 0
         if kind == 'queue':
-            return QUEUES[o['queue']](n or 0)
-        made = {'event': asyncio.Event, 'sem': lambda: asyncio.Semaphore(n), 'bsem': lambda: asyncio.BoundedSemaphore(n),
+            return QUEUES[o['queue']](n)
+        made: Any = {'event': asyncio.Event, 'sem': lambda: asyncio.Semaphore(n), 'bsem': lambda: asyncio.BoundedSemaphore(n),
                 'result': self.loop.create_future, 'rlock': asyncio.Lock}.get(kind)
         return made() if made else None
 
     # ------------------------------------------------------------ numbers, faults, queries
 
-    def me(self):
+    def me(self) -> int:
         return self.number_of[id(asyncio.current_task())]
 
-    def number(self, task):
+    def number(self, task: 'asyncio.Task[Any]') -> int:
         self.number_of[id(task)] = len(self.tasks)
         self.tasks.append(task)
         return len(self.tasks) - 1
 
-    def to_exc(self, f):
+    def to_exc(self, f: Any) -> BaseException:
         if f.kind == 'Error':
             return Err(f.n)
         if f.kind not in EXC:
             raise Unsupported('raise ' + f.kind)
-        return EXC[f.kind]()
+        made: BaseException = EXC[f.kind]()
+        return made
 
-    def to_fault(self, e):
+    def to_fault(self, e: Optional[BaseException]) -> Fault:
         if isinstance(e, Err):
             return Fault('Error', e.n)
         if isinstance(e, TimeoutError):
@@ -101,29 +128,31 @@ class Run:
                 return Fault(kind)
         return Fault(type(e).__name__)
 
-    def outcome(self, n):
+    def outcome(self, n: int) -> Optional[Tuple[str, Value]]:
         t = self.tasks[n]
         if n not in self.outcomes and t.done():
             return ('value', Fault('GreenletExit')) if t.cancelled() else ('fault', self.to_fault(t.exception()))
         return self.outcomes.get(n) if t.done() else None
 
-    def query_handle(self, form, h):
-        o = self.outcome(h.g)
+    def query_handle(self, form: str, handle: Any) -> Value:
+        o = self.outcome(handle.g)
         if form in ('ready', 'successful'):
             return o is not None and (form == 'ready' or o[0] == 'value')
         return o[1] if o is not None and (o[0] == 'value') == (form == 'value') else None
 
-    def query_object(self, form, name):
+    def query_object(self, form: str, name: str) -> Any:
         o = self.objects[name]
         if o is None or form == 'members':
             raise Unsupported(form)
         if form == 'isset':
             return o.is_set() if isinstance(o, asyncio.Event) else o.done()
-        return {'counter': lambda: o._value, 'qsize': lambda: o.qsize(), 'unfinished': lambda: o._unfinished_tasks}[form]()
+        if form == 'qsize':
+            return o.qsize()
+        return o._value if form == 'counter' else o._unfinished_tasks
 
     # ------------------------------------------------------------ bodies
 
-    async def body(self, f, args):
+    async def body(self, f: Tree, args: List[Value]) -> Value:
         n = self.me()
         self.begun.add(n)
         self.log('start', g=n, f=f['name'])
@@ -136,7 +165,7 @@ class Run:
             if self.void == 'unsupported':
                 self.log('unsupported', what=str(e))
             self.loop.stop()
-            return
+            return None
         except BaseException as e:
             fault = self.to_fault(e)
             self.outcomes[n] = ('value' if fault.kind == 'GreenletExit' else 'fault', fault)
@@ -146,11 +175,11 @@ class Run:
         self.ended(n)
         return v
 
-    def ended(self, n):
+    def ended(self, n: int) -> None:
         kind, v = self.outcomes[n]
         self.log('end', g=n, out='%s %s' % (kind, value_text(v)))
 
-    def go(self):
+    def go(self) -> 'Run':
         main = self.loop.create_task(self.body(self.fns['main'], []))
         self.number(main)
         try:
@@ -160,78 +189,94 @@ class Run:
             cause = None if self.loop.hangs or self.void else 'fault ' + value_text(self.to_fault(e))
         for n, t in enumerate(self.tasks):
             if n not in self.begun and t.done():
-                kind, v = self.outcome(n)
+                kind, v = self.outcome(n) or ('value', None)
                 self.log('killed', g=n, out='%s %s' % (kind, value_text(v)))
         self.log('stop', out=self.void or ('hang' if self.loop.hangs and cause is None else cause))
         return self
 
-    async def block(self, stmts, env):
-        for st in stmts:
+    async def block(self, statements: List[Tree], env: Names) -> Optional[Tuple[Value]]:
+        """None, or (value,) at a return."""
+        for st in statements:
             r = await self.statement(st, env)
             if r is not None:
                 return r
         return None
 
-    def move(self):
-        if self.moves == self.args.moves:
+    def move(self) -> None:
+        if self.moves == self.options.moves:
             raise Budget
         self.moves += 1
 
-    def ev(self, e, env):
+    def ev(self, e: List[Any], env: Names) -> Any:
         return self.eval_(e, env, self.me())
 
-    async def statement(self, st, env):
+    async def statement(self, st: Tree, env: Names) -> Optional[Tuple[Value]]:
+        """Run a statement; what `block` gives."""
         word = st['do']
         if word == 'while':
-            while True:
-                self.move()
-                if not truth(self.ev(st['e'], env)):
-                    return None
-                r = await self.block(st['body'], env)
-                if r is not None:
-                    return r
+            return await self.repeated(st, env)
         self.move()
+        if word == 'return':
+            return (self.ev(st['e'], env),)
+        if word == 'if':
+            return await self.block(st['body'] if truth(self.ev(st['e'], env)) else st.get('other', []), env)
+        if word == 'try':
+            return await self.try_(st, env)
+        if word == 'timeout':
+            return await self.timeout(st, env)
         if word == 'let':
             env[st['name']] = self.ev(st['e'], env)
         elif word == 'print':
             self.log('print', g=self.me(), v=value_text(self.ev(st['e'], env)), line=st['line'])
-        elif word == 'return':
-            return (self.ev(st['e'], env),)
         elif word == 'raise':
             raise self.to_exc(self.fault(self.ev(st['e'], env)))
-        elif word == 'if':
-            return await self.block(st['body'] if truth(self.ev(st['e'], env)) else st.get('other', ()), env)
-        elif word == 'try':
-            return await self.try_(st, env)
-        elif word == 'timeout':
-            self.timeouts += 1
-            n = self.timeouts
-            scope = asyncio.timeout(st['ms'] * MS if 'ms' in st else None)
-            try:
-                async with scope:
-                    return await self.block(st['body'], env)
-            except TimeoutError as e:
-                if scope.expired() and not hasattr(e, 'number'):
-                    if st.get('silent'):
-                        return None
-                    e.number = n
-                raise
         else:
-            do = getattr(self, 'do_' + word, None)
-            if do is None:
-                raise Unsupported(word)
-            before, v = self.loop.iteration, None
-            try:
-                v = await do(st, env)
-            finally:
-                if self.loop.iteration != before and not self.void and not self.loop.hangs:
-                    self.log('go', g=self.me(), line=st['line'])
-            if 'into' in st:
-                env[st['into']] = v
+            await self.called(st, env)
         return None
 
-    async def try_(self, st, env):
-        pending, exc = None, None
+    async def repeated(self, st: Tree, env: Names) -> Optional[Tuple[Value]]:
+        """A `while`."""
+        while True:
+            self.move()
+            if not truth(self.ev(st['e'], env)):
+                return None
+            r = await self.block(st['body'], env)
+            if r is not None:
+                return r
+
+    async def timeout(self, st: Tree, env: Names) -> Optional[Tuple[Value]]:
+        """A `timeout` block."""
+        self.timeouts += 1
+        n = self.timeouts
+        scope = TIMEOUT(st['ms'] * MS if 'ms' in st else None)
+        try:
+            async with scope:
+                return await self.block(st['body'], env)
+        except TimeoutError as e:
+            if scope.expired() and not isinstance(e, NumberedTimeout):
+                if st.get('silent'):
+                    return None
+                raise NumberedTimeout(n) from None
+            raise
+
+    async def called(self, st: Tree, env: Names) -> None:
+        """A statement that is a call of asyncio. One that was left and came back is a `go`."""
+        do = getattr(self, 'do_' + st['do'], None)
+        if do is None:
+            raise Unsupported(st['do'])
+        before = self.loop.iteration
+        v: Any = None
+        try:
+            v = await do(st, env)
+        finally:
+            if self.loop.iteration != before and not self.void and not self.loop.hangs:
+                self.log('go', g=self.me(), line=st['line'])
+        if 'into' in st:
+            env[st['into']] = v
+
+    async def try_(self, st: Tree, env: Names) -> Optional[Tuple[Value]]:
+        pending: Optional[Tuple[Value]] = None
+        exc: Optional[BaseException] = None
         try:
             pending = await self.block(st['body'], env)
         except VOID:
@@ -260,72 +305,70 @@ class Run:
 
     # ------------------------------------------------------------ operands
 
-    def fault(self, v):
-        if kind_of(v) != 'fault':
+    def fault(self, v: Any) -> Fault:
+        if not isinstance(v, Fault):
             raise TypeError
         return v
 
-    def task(self, v):
-        if kind_of(v) != 'greenlet':
+    def task(self, v: Any) -> 'asyncio.Task[Any]':
+        if not isinstance(v, G):
             raise TypeError
         return self.tasks[v.g]
 
-    def obj(self, st):
+    def obj(self, st: Tree) -> Any:
         o = self.objects[st['obj']]
         if o is None:
             raise Unsupported(st['do'])
         return o
 
-    def limit(self, st):
+    def limit(self, st: Tree) -> Any:
         """Seconds of `within`; None if there is none; 'now' for `now`."""
         w = st.get('wait')
         return None if w is None else 'now' if w[0] == 'now' else w[1] * MS
 
-    async def timed(self, st, make, late):
+    async def timed(self, st: Tree, make: Callable[[], Awaitable[Any]], late: Callable[[], Any]) -> Any:
         """Await make() for at most `within`; late() tells what it gives then."""
         limit = self.limit(st)
         if limit is None:
             return await make()
         try:
-            async with asyncio.timeout(limit) as scope:
+            async with TIMEOUT(limit) as scope:
                 return await make()
         except TimeoutError:
             if not scope.expired():
                 raise
         return late()
 
-    def raises(self, cls):
-        def late():
+    def raises(self, cls: Type[BaseException]) -> Callable[[], Any]:
+        def late() -> NoReturn:
             raise cls
         return late
 
-    def timeout_now(self):
+    def timeout_now(self) -> 'NumberedTimeout':
         self.timeouts += 1
-        e = TimeoutError()
-        e.number = self.timeouts
-        return e
+        return NumberedTimeout(self.timeouts)
 
     # ------------------------------------------------------------ tasks
 
-    async def do_spawn(self, st, env):
+    async def do_spawn(self, st: Tree, env: Names) -> Any:
         args = [self.ev(e, env) for e in st['args']]
         return G(self.number(self.loop.create_task(self.body(self.fns[st['f']], args))))
 
-    async def do_sleep(self, st, env):
+    async def do_sleep(self, st: Tree, env: Names) -> Any:
         await asyncio.sleep(st['ms'] * MS)
 
-    async def joined(self, tasks, st, **how):
+    async def joined(self, tasks: List[Any], st: Tree, **how: Any) -> None:
         if any(not t.done() for t in tasks):
             limit = self.limit(st)
             await asyncio.wait(tasks, timeout=None if limit == 'now' else limit, **how)
 
-    async def do_join(self, st, env):
+    async def do_join(self, st: Tree, env: Names) -> Any:
         t = self.task(self.ev(st['e'], env))
         if t is asyncio.current_task():
             raise Unsupported('join of self')
         await self.joined([t], st)
 
-    async def do_get(self, st, env):
+    async def do_get(self, st: Tree, env: Names) -> Any:
         v = self.ev(st['e'], env)
         t = self.task(v)
         if t is asyncio.current_task():
@@ -336,13 +379,14 @@ class Run:
             late = self.timeout_now() if self.limit(st) is not None else None
             await self.joined([t], st)
             if not t.done():
+                assert late is not None
                 raise late
-        kind, x = self.outcome(v.g)
+        kind, x = self.outcome(v.g) or ('value', None)
         if kind == 'fault':
             raise self.to_exc(x)
         return x
 
-    async def do_kill(self, st, env):
+    async def do_kill(self, st: Tree, env: Names) -> Any:
         t = self.task(self.ev(st['e'], env))
         if 'with' in st:
             raise Unsupported('kill with')
@@ -352,7 +396,7 @@ class Run:
                 raise Unsupported('kill of self that waits')
             await self.joined([t], st)
 
-    def list_of(self, st, env):
+    def list_of(self, st: Tree, env: Names) -> Tuple[Any, List[Any]]:
         v = self.ev(st['e'], env)
         if kind_of(v) != 'list':
             raise TypeError
@@ -361,7 +405,7 @@ class Run:
             raise Unsupported('self in a list')
         return v, ts
 
-    async def do_joinall(self, st, env):
+    async def do_joinall(self, st: Tree, env: Names) -> Any:
         v, ts = self.list_of(st, env)
         if 'count' in st and st['count'] not in (1, len(ts)):
             raise Unsupported('joinall count')
@@ -371,7 +415,7 @@ class Run:
                 await self.joined(ts, st, return_when=asyncio.FIRST_COMPLETED if first else asyncio.ALL_COMPLETED)
         return tuple(x for x in v if self.tasks[x.g].done())
 
-    async def do_killall(self, st, env):
+    async def do_killall(self, st: Tree, env: Names) -> Any:
         v, ts = self.list_of(st, env)
         if 'with' in st:
             raise Unsupported('killall with')
@@ -380,12 +424,12 @@ class Run:
         if ts and self.limit(st) != 'now':
             await self.joined(ts, st)
 
-    async def do_rawlink(self, st, env):
+    async def do_rawlink(self, st: Tree, env: Names) -> Any:
         h = self.ev(st['e'], env)
         self.links += 1
         k = self.links
 
-        def call(_):
+        def call(_: object) -> None:
             self.log('link', k=k, g=h.g, **({'mark': st['mark']} if 'mark' in st else {'set': st['obj']}))
             if 'obj' in st:
                 self.objects[st['obj']].set()
@@ -394,26 +438,26 @@ class Run:
 
     # ------------------------------------------------------------ events, results, semaphores, locks, queues
 
-    async def do_set(self, st, env):
+    async def do_set(self, st: Tree, env: Names) -> Any:
         self.obj(st).set()
 
-    async def do_clear(self, st, env):
+    async def do_clear(self, st: Tree, env: Names) -> Any:
         self.obj(st).clear()
 
-    async def do_wait(self, st, env):
+    async def do_wait(self, st: Tree, env: Names) -> Any:
         return await self.timed(st, self.obj(st).wait, lambda: False)
 
-    async def do_rset(self, st, env):
+    async def do_rset(self, st: Tree, env: Names) -> Any:
         if self.obj(st).done():
             raise Unsupported('a result put twice')
         self.obj(st).set_result(self.ev(st['e'], env))
 
-    async def do_rfail(self, st, env):
+    async def do_rfail(self, st: Tree, env: Names) -> Any:
         if self.obj(st).done():
             raise Unsupported('a result put twice')
         self.obj(st).set_exception(self.to_exc(self.fault(self.ev(st['e'], env))))
 
-    async def do_rget(self, st, env):
+    async def do_rget(self, st: Tree, env: Names) -> Any:
         r = self.obj(st)
         if not r.done():
             if self.limit(st) == 'now':
@@ -421,15 +465,16 @@ class Run:
             late = self.timeout_now() if self.limit(st) is not None else None
             await self.joined([r], st)
             if not r.done():
+                assert late is not None
                 raise late
         return r.result()
 
-    async def do_rwait(self, st, env):
+    async def do_rwait(self, st: Tree, env: Names) -> Any:
         r = self.obj(st)
         await self.joined([r], st)
         return r.result() if r.done() and r.exception() is None else None
 
-    async def do_acquire(self, st, env):
+    async def do_acquire(self, st: Tree, env: Names) -> Any:
         o = self.obj(st)
         lock = isinstance(o, asyncio.Lock)
         if lock and self.owner.get(id(o)) == self.me():
@@ -445,7 +490,7 @@ class Run:
             self.owner[id(o)] = self.me()
         return got
 
-    async def do_release(self, st, env):
+    async def do_release(self, st: Tree, env: Names) -> Any:
         o = self.obj(st)
         if isinstance(o, asyncio.Lock):
             if self.owner.get(id(o)) != self.me():
@@ -453,42 +498,42 @@ class Run:
             self.owner[id(o)] = None
         o.release()
 
-    async def do_qput(self, st, env):
+    async def do_qput(self, st: Tree, env: Names) -> Any:
         q, v = self.obj(st), self.ev(st['e'], env)
         if self.kinds[st['obj']]['queue'] == 'prio' and kind_of(v) != 'int':
             raise TypeError
         if self.limit(st) == 'now':
             return q.put_nowait(v)
-        await self.timed(st, lambda: q.put(v), self.raises(asyncio.QueueFull))
+        put: Callable[[], Awaitable[Any]] = functools.partial(q.put, v)
+        await self.timed(st, put, self.raises(asyncio.QueueFull))
 
-    async def do_qget(self, st, env):
+    async def do_qget(self, st: Tree, env: Names) -> Any:
         q = self.obj(st)
         if self.limit(st) == 'now':
             return q.get_nowait()
         return await self.timed(st, q.get, self.raises(asyncio.QueueEmpty))
 
-    async def do_qdone(self, st, env):
+    async def do_qdone(self, st: Tree, env: Names) -> Any:
         self.obj(st).task_done()
 
-    async def do_qjoin(self, st, env):
-        async def join():
+    async def do_qjoin(self, st: Tree, env: Names) -> Any:
+        async def join() -> bool:
             await self.obj(st).join()
             return True
         return await self.timed(st, join, lambda: False)
 
 
-def main():
-    a = argparse.ArgumentParser()
-    a.add_argument('--moves', type=int, default=20000)
-    a.add_argument('--cpu', type=int, default=5)
-    args = a.parse_args()
-    args.fork = False
+def main() -> None:
+    parser = argparse.ArgumentParser()
+    serve_options(parser)
+    options = parser.parse_args()
+    options.fork = False
 
-    def run_one(tree, out):
-        run = Run(tree, args).go()
+    def run_one(tree: Tree, out: TextIO) -> Run:
+        run = Run(tree, options).go()
         run.log.write(out)
         return run
-    serve(run_one, args)
+    serve(run_one, options)
 
 
 if __name__ == '__main__':

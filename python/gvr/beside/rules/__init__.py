@@ -20,7 +20,8 @@ GEVENT: Tuple[Type[Rule], ...] = (
     gevent.ZeroLast, gevent.ValueStays, gevent_crews.EndingOrder, gevent_crews.MapByHelper, gevent_crews.MapRaisesEarly,
     gevent_crews.OneJobMore, gevent_crews.JobLast, gevent.LostWake, gevent.LateReads, gevent_crews.JoinBeforePlace,
     gevent.QueueAlternates, gevent.MainExit, gevent.SleepFirst, gevent_crews.JoinallYields, gevent_crews.CountStops,
-    gevent_crews.EndsTold, gevent_crews.LeaveByLink, gevent_crews.GkillNewcomers, gevent.KillallLate, gevent.CgetYields)
+    gevent_crews.EndsTold, gevent_crews.LeaveByLink, gevent_crews.GkillNewcomers, gevent.KillallLate, gevent.CgetYields,
+    gevent.KillerJoinsLate)
 ASYNCIO: Tuple[Type[Rule], ...] = (
     gevent.Overtake, gevent.StaleWake, gevent.LateReads, *asyncio.RULES)
 RUNTIMES: Dict[str, Tuple[Type[Rule], ...]] = {'gevent': GEVENT, 'asyncio': ASYNCIO}

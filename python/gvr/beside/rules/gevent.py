@@ -4,7 +4,7 @@ from typing import Any, Dict, List, Optional, Set, Tuple
 
 from ...model.items import NEWCOMER, Effect, Greenlet, Item, Stop, Thing, Wait
 from ...model.tree import Statement
-from ...model.values import GREENLET_EXIT, NOTHING, Fault, Handle, Outcome, timeout_fault
+from ...model.values import GREENLET_EXIT, NOTHING, Fault, G, Handle, Outcome, timeout_fault
 from .rule import GAP, Rule, Teller, side_of, teller_of
 
 QUEUE_WAITS = ('qput', 'qget', 'qpeek', 'cput', 'cget')
@@ -83,17 +83,14 @@ class StaleWake(Rule):
         return item.kind == 'wake' and item.parked.kind in ('qjoin', 'gjoin') or super().stays_ready(item)
 
 
-class KillerFirst(Rule):
-    name, root = 'killer_first', '3'
-    says = 'a killer goes on in the call that threw, before links and joiners'
-    source = 'gevent/greenlet.py, _kill and _killall3: waiter.switch stands right behind throw'
+class Batches(Rule):
+    """What the two rules on killers share: which kills are those of one statement, and who waits for them."""
 
     def __init__(self, *arguments: Any) -> None:
         super().__init__(*arguments)
         self.batch = 0                                     # the kills of one statement
         self.batch_of: Dict[int, int] = {}                 # since of a kill: its batch
         self.killer: Dict[int, int] = {}                   # a batch: since of the Wake of who waits for it
-        self.places: Dict[int, int] = {}                   # since of such a Wake: the place of the last kill
 
     def killed(self, g: Greenlet, st: Statement, wait: Wait, fault: Fault) -> Effect:
         self.batch += 1
@@ -107,9 +104,6 @@ class KillerFirst(Rule):
         self.batch_of[self.next_since] = self.batch
         super().hit(target, fault)
 
-    def place_of(self, item: Item) -> int:
-        return self.places[item.since] + 1 if item.since in self.places else super().place_of(item)
-
     def is_last_of_batch(self, item: Item) -> bool:
         batch = self.batch_of[item.since]
         return not any(x.kind == 'kill' and x is not item and x.since > item.since and self.batch_of[x.since] == batch
@@ -120,6 +114,19 @@ class KillerFirst(Rule):
         if item.kind != 'kill' or not self.is_last_of_batch(item):
             return None
         return self.killer.get(self.batch_of[item.since])
+
+
+class KillerFirst(Batches):
+    name, root = 'killer_first', '3'
+    says = 'a killer goes on in the call that threw, before links and joiners'
+    source = 'gevent/greenlet.py, _kill and _killall3: waiter.switch stands right behind throw'
+
+    def __init__(self, *arguments: Any) -> None:
+        super().__init__(*arguments)
+        self.places: Dict[int, int] = {}                   # since of a killer's Wake: the place of the last kill
+
+    def place_of(self, item: Item) -> int:
+        return self.places[item.since] + 1 if item.since in self.places else super().place_of(item)
 
     def end(self, g: Greenlet, outcome: Outcome) -> None:
         for item in g.own.values():
@@ -136,6 +143,24 @@ class KillerFirst(Rule):
             self.deliver(self.items[killer])
 
 
+class KillerJoinsLate(Batches):
+    name, root = 'killer_joins_late', '3'
+    says = 'a killer whose target goes on joins it when the throw is done, behind those that joined before'
+    source = 'gevent/greenlet.py, Greenlet.kill and killall: join and joinall stand behind waiter.get'
+
+    def deliver(self, item: Item) -> None:
+        killer = self.killer_behind(item)
+        super().deliver(item)
+        if killer is not None and killer in self.items and not self.holds(self.items[killer]):
+            self.join_anew(self.items[killer])
+
+    def join_anew(self, wake: Item) -> None:
+        """The wait begins once more, behind all others."""
+        del self.items[wake.since], wake.greenlet.own[wake.since]
+        wake.since, self.next_since = self.next_since, self.next_since + 1
+        self.items[wake.since] = wake.greenlet.own[wake.since] = wake
+
+
 class SharedNotify(Rule):
     name, root = 'shared_notify', '3'
     says = 'an object serves all its waiters at the place of the first that may go on'
@@ -143,16 +168,59 @@ class SharedNotify(Rule):
              '_notify_links: an object has one pending callback'
     documentation = 'Event: the order in which waiters are awakened "is not determined"'
 
+    def __init__(self, *arguments: Any) -> None:
+        super().__init__(*arguments)
+        self.told_by: Dict[int, Teller] = {}               # since of a joinall of several: the one whose end decided
+
     def place_of(self, item: Item) -> int:
+        if self.joins_several(item):
+            return self.place_of_several(item)
         teller = teller_of(item)
         if teller is None or item.since in self.too_late:
             return super().place_of(item)
-        last = max((x.ready for x in self.items.values() if x.ready is not None and teller_of(x) == teller), default=None)
+        last = self.last_told(teller)
         if last is None and self.told is not None and self.told[0] == teller:
             last = self.told[1]
         if last is None and self.pending.get(teller, -1) > self.delivering:
             last = self.pending[teller]                   # it stands there, though whom it was to tell is gone
         return super().place_of(item) if last is None else last + 1
+
+    def last_told(self, teller: Teller) -> Optional[int]:
+        """The last place of those that this one tells."""
+        return max((x.ready for x in self.items.values() if x.ready is not None and teller_of(x) == teller), default=None)
+
+    @staticmethod
+    def joins_several(item: Item) -> bool:
+        return item.kind == 'wake' and item.parked.kind in ('joinall', 'gkill') and len(set(item.parked.targets)) > 1
+
+    def place_of_several(self, item: Item) -> int:
+        """One that joins several is told of each; it goes on where it is told of the last that it needs."""
+        wait = item.parked
+        need = wait.need if wait.kind == 'joinall' else len(wait.targets)
+        tellers: List[Teller] = [('greenlet', whom.g) for whom in wait.targets if isinstance(whom, G) and self.ended(whom)]
+        told = sorted((self.telling_at(teller), i, teller) for i, teller in enumerate(tellers))
+        if not told or not need:
+            return super().place_of(item)
+        place, _, teller = told[min(need, len(told)) - 1]
+        self.told_by[item.since] = teller
+        return max(place, self.last_told(teller) or 0) + 1
+
+    def telling_at(self, teller: Teller) -> int:
+        """The place at which one that has ended tells it: just now, where it stands in the line, or behind all."""
+        if self.told is not None and self.told[0] == teller:
+            return self.told[1]
+        if self.pending.get(teller, -1) <= self.delivering:
+            self.pending[teller] = self.next_ready * GAP
+            self.next_ready += 1
+        return self.pending[teller]
+
+    def teller(self, item: Item) -> Optional[Teller]:
+        return self.told_by.get(item.since) or super().teller(item)
+
+    def end(self, g: Greenlet, outcome: Outcome) -> None:
+        if any(self.joins_several(item) and g.handle in item.parked.targets for item in self.items.values()):
+            self.telling_at(('greenlet', g.number))
+        super().end(g, outcome)
 
 
 class ZeroLast(Rule):

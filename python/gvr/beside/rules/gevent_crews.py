@@ -158,9 +158,9 @@ class MapByHelper(Rule):
         elements = self.value_of(st.operands[0], g)
         if not isinstance(elements, tuple):
             return super().do_map(g, st)
-        wait = Wait('map', self.objects[st.thing], st.into, 'helped')
-        wait.function, wait.arguments, wait.targets, wait.need = self.functions[st.function], list(elements), [], 0
-        self.add('helper', g, wait=wait)
+        wait = Helped(g, self.objects[st.thing], st.into)
+        wait.function, wait.arguments = self.functions[st.function], list(elements)
+        self.add('helper', self.greenlets[0], wait=wait)             # it lives on, whatever becomes of the caller
         return self.park(g, wait)
 
     def holds(self, item: Item) -> bool:
@@ -176,47 +176,48 @@ class MapByHelper(Rule):
             return
         self.delivering = item.ready or 0
         self.remove(item)
+        wait = item.parked
+        assert isinstance(wait, Helped)
         if item.kind == 'helper':
-            self.help(item.greenlet, item.parked)
+            self.help(wait)
             return
-        wake = self.own_item(item.greenlet, 'wake')
-        if wake is not None and wake.parked is item.wait:
+        wake = self.own_item(wait.caller, 'wake')
+        if wake is not None and wake.parked is wait:
             super().deliver(wake)
         else:
             self.settle()
 
-    def help(self, g: Greenlet, wait: Wait) -> None:
+    def help(self, wait: 'Helped') -> None:
         """The helper makes members as long as there are places, then reads their results in order."""
         assert wait.function is not None
         while wait.arguments and wait.thing.free() > 0:
             wait.targets = [*wait.targets, self.admit(wait.thing, wait.function, [wait.arguments.pop(0)])]
             self.settle()
         if wait.arguments:
-            self.add('helper', g, wait=wait)
+            self.add('helper', self.greenlets[0], wait=wait)
         else:
-            self.read_results(g, wait)
+            self.read_results(wait)
         self.settle()
 
-    def read_results(self, g: Greenlet, wait: Wait) -> None:
+    def read_results(self, wait: 'Helped') -> None:
         """Read the results from the first that was not read; `need` counts them, `value` keeps the first fault."""
         while wait.need < len(wait.targets):
             member = wait.targets[wait.need]
             outcome = self.outcome_of(member)
             if outcome is None:
                 assert isinstance(member, G)
-                link = ResultLink(g, wait)
-                self.add('link', self.greenlets[member.g], link=link)
+                self.add('link', self.greenlets[member.g], link=ResultLink(wait))
                 return
             if outcome.fault is not None and wait.value is None:
                 wait.value = outcome.fault
                 if self.stops_at_a_fault:
                     break
             wait.need += 1
-        self.add('told', g, wait=wait)
+        self.add('told', self.greenlets[0], wait=wait)
 
     def call_link(self, g: Greenlet, link: Link) -> None:
         if isinstance(link, ResultLink):
-            self.read_results(link.caller, link.wait)
+            self.read_results(link.wait)
             self.settle()
             return
         super().call_link(g, link)
@@ -227,13 +228,22 @@ class MapByHelper(Rule):
         return Outcome('fault', wait.value) if isinstance(wait.value, Fault) else self.mapped(wait)
 
 
+class Helped(Wait):
+    """The wait of a map that has a helper."""
+    __slots__ = ('caller',)
+
+    def __init__(self, caller: Greenlet, thing: Thing, into: Optional[str]) -> None:
+        super().__init__('map', thing, into, 'helped')
+        self.caller = caller
+
+
 class ResultLink(Link):
     """By which a map's helper is told of the end of a member."""
-    __slots__ = ('caller', 'wait')
+    __slots__ = ('wait',)
 
-    def __init__(self, caller: Greenlet, wait: Wait) -> None:
+    def __init__(self, wait: Helped) -> None:
         super().__init__(0, 'result', 0)
-        self.caller, self.wait = caller, wait
+        self.wait = wait
 
 
 class MapRaisesEarly(Rule):

@@ -109,8 +109,12 @@ class Ruled(Machine):
         super().answered(answer)
         self.looking = False
 
+    def teller(self, item: Item) -> Optional[Teller]:
+        """Who tells this item."""
+        return teller_of(item)
+
     def deliver(self, item: Item) -> None:
-        teller = teller_of(item)
+        teller = self.teller(item)
         if item.ready is not None:
             self.delivering = item.ready
         told = None if item.ready is None or teller is None else (teller, item.ready)
