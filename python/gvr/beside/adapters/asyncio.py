@@ -12,20 +12,13 @@ import asyncio
 import functools
 import selectors
 from asyncio import CancelledError
-from typing import Any, Awaitable, Callable, Dict, List, NoReturn, Optional, Set, TextIO, Tuple, Type
+from typing import Any, Awaitable, Callable, Dict, List, NoReturn, Optional, TextIO, Tuple, Type
 
-from .protocol import (PLAIN, Budget, Err, Evaluator, Fault, G, Log, Unsupported, Value, catches, kind_of, serve,
-                       serve_options, truth, value_text)
-
-Tree = Dict[str, Any]
-Names = Dict[str, Value]
+from .protocol import PLAIN, Fault, G, Unsupported, Value, kind_of, serve, serve_options, value_text
+from .tasks import MS, VOID, Names, Returned, TaskRun, Tree
 
 EXC: Dict[str, Type[BaseException]] = dict(PLAIN, GreenletExit=CancelledError, Empty=asyncio.QueueEmpty, Full=asyncio.QueueFull)
 QUEUES = {'fifo': asyncio.Queue, 'join': asyncio.Queue, 'lifo': asyncio.LifoQueue, 'prio': asyncio.PriorityQueue}
-VOID = (Budget, Unsupported)
-MS = 1 / 1024
-
-
 TIMEOUT: Any = getattr(asyncio, 'timeout', None)          # since Python 3.11
 
 
@@ -72,25 +65,20 @@ class VirtualLoop(asyncio.SelectorEventLoop):
         super()._run_once()  # type: ignore[misc]
 
 
-class Run:
+class Run(TaskRun):
     """One run."""
 
+    exceptions = EXC
+
     def __init__(self, tree: Tree, options: argparse.Namespace) -> None:
-        self.options, self.log, self.moves = options, Log(), 0
-        self.fns: Dict[str, Tree] = {f['name']: f for f in tree['functions']}
-        self.eval_ = Evaluator(self)
+        super().__init__(tree, options)
         self.loop = VirtualLoop()
         asyncio.set_event_loop(self.loop)
         self.loop.set_exception_handler(lambda loop, context: None)
         self.tasks: List['asyncio.Task[Any]'] = []
         self.number_of: Dict[int, int] = {}
-        self.begun: Set[int] = set()
-        self.outcomes: Dict[int, Tuple[str, Value]] = {}
-        self.timeouts = self.links = 0
         self.owner: Dict[int, Optional[int]] = {}
-        self.void: Optional[str] = None
-        self.objects: Dict[str, Any] = {o['name']: self.make(o) for o in tree['objects']}
-        self.kinds: Dict[str, Tree] = {o['name']: o for o in tree['objects']}
+        self.objects = {o['name']: self.make(o) for o in tree['objects']}
 
     def make(self, o: Tree) -> Any:
         kind, n = o['kind'], o.get('n') or 0
@@ -100,7 +88,7 @@ class Run:
                 'result': self.loop.create_future, 'rlock': asyncio.Lock}.get(kind)
         return made() if made else None
 
-    # ------------------------------------------------------------ numbers, faults, queries
+    # ------------------------------------------------------------ numbers, outcomes, queries
 
     def me(self) -> int:
         return self.number_of[id(asyncio.current_task())]
@@ -110,35 +98,11 @@ class Run:
         self.tasks.append(task)
         return len(self.tasks) - 1
 
-    def to_exc(self, f: Any) -> BaseException:
-        if f.kind == 'Error':
-            return Err(f.n)
-        if f.kind not in EXC:
-            raise Unsupported('raise ' + f.kind)
-        made: BaseException = EXC[f.kind]()
-        return made
-
-    def to_fault(self, e: Optional[BaseException]) -> Fault:
-        if isinstance(e, Err):
-            return Fault('Error', e.n)
-        if isinstance(e, TimeoutError):
-            return Fault('Timeout', getattr(e, 'number', 0))
-        for kind, cls in EXC.items():
-            if isinstance(e, cls):
-                return Fault(kind)
-        return Fault(type(e).__name__)
-
     def outcome(self, n: int) -> Optional[Tuple[str, Value]]:
         t = self.tasks[n]
         if n not in self.outcomes and t.done():
             return ('value', Fault('GreenletExit')) if t.cancelled() else ('fault', self.to_fault(t.exception()))
         return self.outcomes.get(n) if t.done() else None
-
-    def query_handle(self, form: str, handle: Any) -> Value:
-        o = self.outcome(handle.g)
-        if form in ('ready', 'successful'):
-            return o is not None and (form == 'ready' or o[0] == 'value')
-        return o[1] if o is not None and (o[0] == 'value') == (form == 'value') else None
 
     def query_object(self, form: str, name: str) -> Any:
         o = self.objects[name]
@@ -150,34 +114,29 @@ class Run:
             return o.qsize()
         return o._value if form == 'counter' else o._unfinished_tasks
 
+    def steps(self) -> int:
+        return self.loop.iteration
+
+    def is_over(self) -> bool:
+        return self.void is not None or self.loop.hangs
+
     # ------------------------------------------------------------ bodies
 
     async def body(self, f: Tree, args: List[Value]) -> Value:
         n = self.me()
-        self.begun.add(n)
-        self.log('start', g=n, f=f['name'])
-        env = dict(zip(f['params'], args))
         try:
-            r = await self.block(f['body'], env)
+            r = await self.block(f['body'], self.began(n, f, args))
             v = None if r is None else r[0]
         except VOID as e:
-            self.void = 'no-moves' if isinstance(e, Budget) else 'unsupported'
-            if self.void == 'unsupported':
-                self.log('unsupported', what=str(e))
+            self.voided(e)
             self.loop.stop()
             return None
         except BaseException as e:
-            fault = self.to_fault(e)
-            self.outcomes[n] = ('value' if fault.kind == 'GreenletExit' else 'fault', fault)
-            self.ended(n)
+            self.failed(n, e)
             raise
         self.outcomes[n] = ('value', v)
         self.ended(n)
         return v
-
-    def ended(self, n: int) -> None:
-        kind, v = self.outcomes[n]
-        self.log('end', g=n, out='%s %s' % (kind, value_text(v)))
 
     def go(self) -> 'Run':
         main = self.loop.create_task(self.body(self.fns['main'], []))
@@ -194,58 +153,7 @@ class Run:
         self.log('stop', out=self.void or ('hang' if self.loop.hangs and cause is None else cause))
         return self
 
-    async def block(self, statements: List[Tree], env: Names) -> Optional[Tuple[Value]]:
-        """None, or (value,) at a return."""
-        for st in statements:
-            r = await self.statement(st, env)
-            if r is not None:
-                return r
-        return None
-
-    def move(self) -> None:
-        if self.moves == self.options.moves:
-            raise Budget
-        self.moves += 1
-
-    def ev(self, e: List[Any], env: Names) -> Any:
-        return self.eval_(e, env, self.me())
-
-    async def statement(self, st: Tree, env: Names) -> Optional[Tuple[Value]]:
-        """Run a statement; what `block` gives."""
-        word = st['do']
-        if word == 'while':
-            return await self.repeated(st, env)
-        self.move()
-        if word == 'return':
-            return (self.ev(st['e'], env),)
-        if word == 'if':
-            return await self.block(st['body'] if truth(self.ev(st['e'], env)) else st.get('other', []), env)
-        if word == 'try':
-            return await self.try_(st, env)
-        if word == 'timeout':
-            return await self.timeout(st, env)
-        if word == 'let':
-            env[st['name']] = self.ev(st['e'], env)
-        elif word == 'print':
-            self.log('print', g=self.me(), v=value_text(self.ev(st['e'], env)), line=st['line'])
-        elif word == 'raise':
-            raise self.to_exc(self.fault(self.ev(st['e'], env)))
-        else:
-            await self.called(st, env)
-        return None
-
-    async def repeated(self, st: Tree, env: Names) -> Optional[Tuple[Value]]:
-        """A `while`."""
-        while True:
-            self.move()
-            if not truth(self.ev(st['e'], env)):
-                return None
-            r = await self.block(st['body'], env)
-            if r is not None:
-                return r
-
-    async def timeout(self, st: Tree, env: Names) -> Optional[Tuple[Value]]:
-        """A `timeout` block."""
+    async def timeout(self, st: Tree, env: Names) -> Returned:
         self.timeouts += 1
         n = self.timeouts
         scope = TIMEOUT(st['ms'] * MS if 'ms' in st else None)
@@ -259,56 +167,7 @@ class Run:
                 raise NumberedTimeout(n) from None
             raise
 
-    async def called(self, st: Tree, env: Names) -> None:
-        """A statement that is a call of asyncio. One that was left and came back is a `go`."""
-        do = getattr(self, 'do_' + st['do'], None)
-        if do is None:
-            raise Unsupported(st['do'])
-        before = self.loop.iteration
-        v: Any = None
-        try:
-            v = await do(st, env)
-        finally:
-            if self.loop.iteration != before and not self.void and not self.loop.hangs:
-                self.log('go', g=self.me(), line=st['line'])
-        if 'into' in st:
-            env[st['into']] = v
-
-    async def try_(self, st: Tree, env: Names) -> Optional[Tuple[Value]]:
-        pending: Optional[Tuple[Value]] = None
-        exc: Optional[BaseException] = None
-        try:
-            pending = await self.block(st['body'], env)
-        except VOID:
-            raise
-        except BaseException as e:
-            exc, fault = e, self.to_fault(e)
-            for cls, name, body in st['excepts']:
-                if catches(cls, fault):
-                    if name is not None:
-                        env[name] = fault
-                    exc = None
-                    try:
-                        pending = await self.block(body, env)
-                    except VOID:
-                        raise
-                    except BaseException as e2:
-                        exc = e2
-                    break
-        if 'final' in st:
-            r = await self.block(st['final'], env)
-            if r is not None:
-                return r
-        if exc is not None:
-            raise exc
-        return pending
-
     # ------------------------------------------------------------ operands
-
-    def fault(self, v: Any) -> Fault:
-        if not isinstance(v, Fault):
-            raise TypeError
-        return v
 
     def task(self, v: Any) -> 'asyncio.Task[Any]':
         if not isinstance(v, G):
@@ -320,11 +179,6 @@ class Run:
         if o is None:
             raise Unsupported(st['do'])
         return o
-
-    def limit(self, st: Tree) -> Any:
-        """Seconds of `within`; None if there is none; 'now' for `now`."""
-        w = st.get('wait')
-        return None if w is None else 'now' if w[0] == 'now' else w[1] * MS
 
     async def timed(self, st: Tree, make: Callable[[], Awaitable[Any]], late: Callable[[], Any]) -> Any:
         """Await make() for at most `within`; late() tells what it gives then."""
