@@ -139,6 +139,8 @@ class Run(TaskRun):
 
     async def whole(self, n: int, f: Tree, args: List[Value]) -> None:
         """Task n, within its scope."""
+        if self.over is not None:
+            return
         self.number_of[trio.lowlevel.current_task()] = n
         with self.scopes[n]:
             await self.body(n, f, args)

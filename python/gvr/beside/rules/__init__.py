@@ -9,7 +9,7 @@ from functools import lru_cache
 from itertools import combinations
 from typing import Callable, Dict, FrozenSet, Optional, Sequence, Tuple, Type
 
-from . import asyncio, gevent, gevent_crews
+from . import asyncio, gevent, gevent_crews, trio
 from .rule import Rule, Ruled
 
 __all__ = ['Rule', 'Ruled', 'add_rules', 'explain', 'machine_with', 'meaning', 'names', 'rule', 'sets']
@@ -24,7 +24,10 @@ GEVENT: Tuple[Type[Rule], ...] = (
     gevent.KillerJoinsLate)
 ASYNCIO: Tuple[Type[Rule], ...] = (
     gevent.Overtake, gevent.StaleWake, gevent.LateReads, *asyncio.RULES)
-RUNTIMES: Dict[str, Tuple[Type[Rule], ...]] = {'gevent': GEVENT, 'asyncio': ASYNCIO}
+TRIO: Tuple[Type[Rule], ...] = (
+    gevent.Overtake, asyncio.TimeoutIsCancel, asyncio.CancelsMerge, asyncio.CancelFirst, asyncio.HandedAtRelease,
+    gevent.SleepFirst, *trio.RULES)
+RUNTIMES: Dict[str, Tuple[Type[Rule], ...]] = {'gevent': GEVENT, 'asyncio': ASYNCIO, 'trio': TRIO}
 RULES: Dict[str, Type[Rule]] = {each.name: each for rules in RUNTIMES.values() for each in rules}
 
 
