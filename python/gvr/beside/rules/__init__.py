@@ -25,8 +25,7 @@ GEVENT: Tuple[Type[Rule], ...] = (
 ASYNCIO: Tuple[Type[Rule], ...] = (
     gevent.Overtake, gevent.StaleWake, gevent.LateReads, *asyncio.RULES)
 TRIO: Tuple[Type[Rule], ...] = (
-    gevent.Overtake, asyncio.TimeoutIsCancel, asyncio.CancelsMerge, asyncio.CancelFirst, asyncio.HandedAtRelease,
-    gevent.SleepFirst, *trio.RULES)
+    asyncio.TimeoutIsCancel, asyncio.CancelsMerge, asyncio.CancelFirst, asyncio.HandedAtRelease, *trio.RULES)
 RUNTIMES: Dict[str, Tuple[Type[Rule], ...]] = {'gevent': GEVENT, 'asyncio': ASYNCIO, 'trio': TRIO}
 RULES: Dict[str, Type[Rule]] = {each.name: each for rules in RUNTIMES.values() for each in rules}
 
