@@ -21,6 +21,7 @@ const (
 	mostMoves = 20000
 	quiet     = 20      // so often in a row the clock finds nobody awake before it moves
 	unbounded = 1 << 16 // places of a channel that has no bound
+	nobody    = -1
 )
 
 type statement struct {
@@ -455,7 +456,7 @@ func (r *run) queue(g int, st statement, o chan any, local names) any {
 }
 
 func (r *run) mutex(g int, st statement, o *sync.Mutex) any {
-	owner, is := r.owners[o]
+	owner, is := r.ownerOf(o)
 	if st.Do == "acquire" {
 		if is && owner == g || st.Wait != nil && st.Wait[0] == "within" {
 			panic(unsupported("a lock taken twice, or within"))
@@ -466,16 +467,29 @@ func (r *run) mutex(g int, st statement, o *sync.Mutex) any {
 			got = true
 		}
 		if got {
-			r.owners[o] = g
+			r.owns(o, g)
 		}
 		return got
 	}
 	if st.Do != "release" || !is || owner != g {
 		panic(unsupported(st.Do))
 	}
-	delete(r.owners, o)
+	r.owns(o, nobody)
 	o.Unlock()
 	return nil
+}
+
+func (r *run) ownerOf(o *sync.Mutex) (int, bool) {
+	r.lock.Lock()
+	defer r.lock.Unlock()
+	owner, is := r.owners[o]
+	return owner, is && owner != nobody
+}
+
+func (r *run) owns(o *sync.Mutex, g int) {
+	r.lock.Lock()
+	defer r.lock.Unlock()
+	r.owners[o] = g
 }
 
 // taskOf gives the task of a handle, which is not that of g.

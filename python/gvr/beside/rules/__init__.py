@@ -9,7 +9,7 @@ from functools import lru_cache
 from itertools import combinations
 from typing import Callable, Dict, FrozenSet, Optional, Sequence, Tuple, Type
 
-from . import asyncio, gevent, gevent_crews, trio
+from . import asyncio, gevent, gevent_crews, go, trio
 from .rule import Rule, Ruled
 
 __all__ = ['Rule', 'Ruled', 'add_rules', 'explain', 'machine_with', 'meaning', 'names', 'rule', 'sets']
@@ -26,7 +26,8 @@ ASYNCIO: Tuple[Type[Rule], ...] = (
     gevent.Overtake, gevent.StaleWake, gevent.LateReads, *asyncio.RULES)
 TRIO: Tuple[Type[Rule], ...] = (
     asyncio.TimeoutIsCancel, asyncio.CancelsMerge, asyncio.CancelFirst, asyncio.HandedAtRelease, *trio.RULES)
-RUNTIMES: Dict[str, Tuple[Type[Rule], ...]] = {'gevent': GEVENT, 'asyncio': ASYNCIO, 'trio': TRIO}
+RUNTIMES: Dict[str, Tuple[Type[Rule], ...]] = {'gevent': GEVENT, 'asyncio': ASYNCIO, 'trio': TRIO,
+                                             'go': tuple(go.RULES)}
 RULES: Dict[str, Type[Rule]] = {each.name: each for rules in RUNTIMES.values() for each in rules}
 
 
