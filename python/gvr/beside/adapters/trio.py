@@ -8,9 +8,9 @@ Operations are written plainly: in trio each of them lets others run first, also
 counterpart is Unsupported: raise of GreenletExit or a Timeout, kill with a fault, new, start, spawnlater, links, results,
 groups, pools, maps, jobs, channels, raw greenlets, peeks, queues that are not fifo, joinall of some.
 
-trio's run loop is its own, over a clock that jumps to the next deadline when all tasks are asleep. One thing is switched
-off: the loop takes a batch of tasks in its order, or the other way round, by the toss of a coin. Here it is always its
-order.
+trio's run loop is its own, over a clock that jumps to the next deadline when all tasks are asleep. Held still is what
+varies from run to run: the loop takes a batch of tasks in its order, or the other way round, by the toss of a coin (here
+always in its order); equal deadlines, and the tasks that wait for an Event, come in no order (here in that of making).
 """
 import argparse
 import functools
@@ -71,6 +71,25 @@ class Clock(trio.abc.Clock):  # type: ignore[misc]
         return self.now + seconds + self.deadlines * GRAIN
 
 
+class Waiters(Dict[Any, None]):
+    """In place of an Event's set of tasks: they are woken in the order in which they came to wait."""
+
+    def add(self, task: Any) -> None:
+        """A task waits."""
+        self[task] = None
+
+    def remove(self, task: Any) -> None:
+        """It does not any more."""
+        del self[task]
+
+
+def event() -> Any:
+    """An Event of trio with that order."""
+    made = trio.Event()
+    made._tasks = Waiters()
+    return made
+
+
 class Steps(trio.abc.Instrument):  # type: ignore[misc]
     """Counts the steps of all tasks."""
 
@@ -101,7 +120,7 @@ class Run(TaskRun):
         kind, n = o['kind'], o.get('n') or 0
         if kind == 'queue' and o['queue'] == 'fifo':
             return trio.open_memory_channel(n or math.inf)
-        made: Any = {'event': trio.Event, 'sem': lambda: trio.Semaphore(n), 'rlock': trio.Lock,
+        made: Any = {'event': event, 'sem': lambda: trio.Semaphore(n), 'rlock': trio.Lock,
                      'bsem': lambda: trio.Semaphore(n, max_value=n)}.get(kind)
         return made() if made else None
 
@@ -133,7 +152,7 @@ class Run(TaskRun):
         """Make a task of this function; its number."""
         n = len(self.scopes)
         self.scopes.append(trio.CancelScope())
-        self.ends.append(trio.Event())
+        self.ends.append(event())
         self.nursery.start_soon(self.whole, n, f, args)
         return n
 
@@ -299,12 +318,12 @@ class Run(TaskRun):
         self.obj(st).set()
 
     async def do_wait(self, st: Tree, env: Names) -> Any:
-        event = self.obj(st)
+        waited = self.obj(st)
         if self.limit(st) == 'now':
-            return event.is_set()
+            return waited.is_set()
 
         async def wait() -> bool:
-            await event.wait()
+            await waited.wait()
             return True
         return await self.timed(st, wait, lambda: False)
 
