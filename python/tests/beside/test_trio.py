@@ -65,6 +65,7 @@ class BesideTrio(Beside, unittest.TestCase):
     def test_what_has_no_counterpart_is_void(self) -> None:
         self.assertEqual(void(self.side.run('result r\n' + main('rset r 1'))), 'unsupported')
         self.assertEqual(void(self.side.run('event e\n' + main('clear e'))), 'unsupported')
+        self.assertEqual(void(self.side.run(main('try', 'raise GreenletExit', 'except any', 'end'))), 'unsupported')
 
 
 if __name__ == '__main__':

@@ -140,6 +140,11 @@ class Run(TaskRun):
             return o.is_set()
         return o.value if form == 'counter' else o[1].statistics().current_buffer_used
 
+    def to_exc(self, f: Any) -> BaseException:
+        if f.kind == 'GreenletExit':
+            raise Unsupported('raise GreenletExit')                # a program cannot make a Cancelled
+        return super().to_exc(f)
+
     def steps(self) -> int:
         return self.counted.count
 
