@@ -20,6 +20,11 @@ PYTHONPATH={TOP}/python exec {sys.executable} -m gvr.model "$@"
 """
 
 
+def heed_interrupts() -> None:
+    """The signal of Ctrl-C ends a process, as in a terminal."""
+    signal.signal(signal.SIGINT, signal.SIG_DFL)
+
+
 class Front(unittest.TestCase):
     """A folder with programs that stand for the built one."""
 
@@ -198,7 +203,9 @@ class Views(Front):
         file = self.folder / "w.gvr"
         out = open(self.folder / "out", "w+")
         self.addCleanup(out.close)
-        watching = subprocess.Popen([GVR, "watch", str(file)], stdout=out, stderr=subprocess.DEVNULL, env=self.environment(self.program))
+        words = [GVR, "watch", str(file)]
+        # A test in the background has the signal ignored, and a child would have it so too.
+        watching = subprocess.Popen(words, stdout=out, stderr=subprocess.DEVNULL, env=self.environment(self.program), preexec_fn=heed_interrupts)
         try:
             self.wait_for("ended with status 4")
             file.write_text("def main\nprint 1\nend\n")
