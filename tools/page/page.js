@@ -521,6 +521,7 @@ async function open() {
     else load(first.text, first);
   } catch {
     load("");
+    begin();
     return tellState("the link is damaged, or was cut short", "", true);
   }
   if (name) await openPage(name, decodeURIComponent(heading));
