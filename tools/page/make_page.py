@@ -24,39 +24,40 @@ def comments(text):
     return [" ".join(lines[1:])] if lines[1:] else []
 
 
+def example(folder, name, question, chapter=None):
+    """An example with its question, its answer and what to change: those of its chapter, or what its text says."""
+    text = (TOP / folder / f"{name}.gvr").read_text()
+    return {"name": name, "question": question, "text": text, **(chapter or {"answer": comments(text), "changes": []})}
+
+
 def examples():
-    """The examples in the order of their list, by its headings, each with its question, its answer and what to change."""
+    """The examples in the order of their list, by its groups, and behind them the patterns."""
     groups, told = [], tour.chapters()
-    for part in (TOP / "examples/README.md").read_text().split("\n## ")[1:]:
-        those = []
-        for name, asked in re.findall(r"^\| `(\w+)` \| (.*) \|$", part, re.M):
-            text = (TOP / f"examples/{name}.gvr").read_text()
-            chapter = told.get(name, {"answer": comments(text), "changes": []})
-            those.append({"name": name, "question": asked, "text": text, **chapter})
-        groups.append({"title": part.partition("\n")[0], "examples": those})
-    return [it for it in groups if it["examples"]]
+    for name, question in statements.rows((TOP / "examples/README.md").read_text()):
+        if group := re.fullmatch(r"\*\*(.*)\*\*", name):
+            groups.append({"title": group[1], "examples": []})
+        else:
+            name = name.strip("`")
+            groups[-1]["examples"].append(example("examples", name, question, told.get(name)))
+    patterns = statements.rows((TOP / "examples/patterns/README.md").read_text())
+    those = [example("examples/patterns", name.strip("`"), question) for name, question, _ in patterns]
+    return [*groups, {"title": "Patterns", "examples": those}]
 
 
 def shown(text):
     """A text as EXPLAIN has it between backticks: a bar ends a line. One in quotes is an expression of Python, and no text."""
-    text = " ".join(text.split())
     return None if text.startswith('"') else text.replace("|", "\n") + "\n"
 
 
-def entry(text):
-    """An entry of EXPLAIN in parts: paragraphs, and of a reason its text and the mended one, where they are texts."""
-    told = re.match(r"\nLine \d+ of `([^`]*)`\.(.*)Mended:\s`([^`]*)`\.\s*$", text, re.S)
-    texts = [(kind, shown(it)) for kind, it in zip(("refused", "mended"), told.group(1, 3))] if told else []
-    prose = told[2] if told and None not in dict(texts).values() else re.sub(r"^```.*\n(?:.*\n)*?```$", "", text, flags=re.M)
-    parts = [["text", " ".join(it.split())] for it in prose.split("\n\n") if it.strip()]
-    return [it for it in parts if not it[1].startswith("`gvr: ")] + [[kind, it] for kind, it in texts if it]
-
-
 def explain():
-    """The entries of EXPLAIN on the reasons, by their numbers."""
-    text = (TOP / "docs/EXPLAIN.md").read_text().partition("\n## Requests that")[0] + "\n"
-    heads = r"^### (\d+):? (.*)\n((?:(?!##).*\n)*)"
-    return {int(number): {"title": title, "parts": entry(rest)} for number, title, rest in re.findall(heads, text, re.M)}
+    """The entries of EXPLAIN on the reasons, by their numbers: since when it is, the text and the mended one, where they are
+    texts."""
+    found = {}
+    for told, _, refused, since, mended in statements.rows(statements.section("EXPLAIN", "The reasons")):
+        number, _, title = told.partition(" ")
+        texts = [("refused", shown(refused.strip("`"))), ("mended", shown(mended.strip("`")))]
+        found[int(number)] = {"title": title, "parts": [["text", since], *([kind, it] for kind, it in texts if it)]}
+    return found
 
 
 def version():

@@ -99,6 +99,11 @@ def rows(text: str) -> List[List[str]]:
     return [cells(it) for at, it in enumerate(lines) if at not in heads and at - 1 not in heads]
 
 
+def section(page: str, heading: str) -> str:
+    """What stands in a page of docs/ between a heading of the second level and the next one."""
+    return (TOP / f"docs/{page}.md").read_text().partition(f"\n## {heading}\n")[2].partition("\n## ")[0]
+
+
 def plain(text: str) -> str:
     """A cell without the addresses of its links."""
     return re.sub(r"\[([^\]]*)\]\([^)]*\)", r"\1", text)
@@ -134,9 +139,8 @@ def texts(cell: str) -> List[str]:
 
 def cures() -> List[Dict[str, Any]]:
     """What newcomers write first, by EXPLAIN: texts, the reason, since when it is none, and what to write."""
-    table = (TOP / "docs/EXPLAIN.md").read_text().partition("\n## You wrote")[2].partition("\n## ")[0]
     found = []
-    for row in rows(table):
+    for row in rows(section("EXPLAIN", "You wrote, it says, write")):
         reason = re.match(r"\d+", row[1])
         number = int(reason[0]) if reason else 0
         found.append({"wrote": texts(row[0]), "reason": number, "since": row[2], "write": texts(row[3])})

@@ -44,35 +44,27 @@ def what_newcomers_write() -> List[Row]:
 
 
 def plain(text: str) -> str:
-    """A text of the page as a terminal shows it: links are their words, fences go, and so does what keeps bars in tables."""
-    text = re.sub(r"\[([^\]]*)\]\([^)]*\)", r"\1", text).replace("\\|", "|")
-    return re.sub(r"^```.*\n", "", text, flags=re.M).strip() + "\n"
-
-
-def section(head: str) -> Optional[str]:
-    """The section of the third level whose heading begins so, with its heading."""
-    found = re.search(rf"^### ({re.escape(head)}.*\n(?:(?!##).*\n)*)", page_text(), re.M)
-    return plain(found[1]) if found else None
+    """A text of the page as a terminal shows it: links are their words, and what keeps bars in tables goes."""
+    return re.sub(r"\[([^\]]*)\]\([^)]*\)", r"\1", text).replace("\\|", "|").strip() + "\n"
 
 
 def reasons() -> Dict[int, str]:
     """The reasons for which a text is refused, by their numbers."""
-    found = re.findall(r"^### (\d+) (.*)$", page_text(), re.M)
-    return {int(number): text for number, text in found}
+    return {int(number): text for number, _, text in (cells[0].partition(" ") for cells in table("Reason | Line"))}
 
 
 def statuses() -> List[Tuple[str, str]]:
     """The statuses with what they mean."""
-    return [(cells[0], plain(cells[1]).strip()) for cells in table("Status")]
+    return [(number, means) for number, _, means in (cells[0].partition(" ") for cells in table("Status"))]
 
 
 def row_of(head: str, number: str) -> Optional[str]:
-    """The row of a table of causes or laws, each cell under the word of its column."""
-    names = re.findall(rf"^\| {head} \|.*$", page_text(), re.M)
+    """The row of a table whose head begins so, each cell that has something under the word of its column."""
+    names = re.findall(rf"^\| {re.escape(head)} \|.*$", page_text(), re.M)
     for cells in table(head):
         if cells[0].split(" ")[0] == number:
-            told = [f"  {name.lower()}: {cell}" for name, cell in zip(cells_of(names[0])[1:], cells[1:])]
-            return plain("\n".join([f"{head} {cells[0]}", *told]))
+            told = [f"  {name.lower()}: {cell}" for name, cell in zip(cells_of(names[0])[1:], cells[1:]) if cell]
+            return plain("\n".join([f"{head.split(' ')[0]} {cells[0]}", *told]))
     return None
 
 
@@ -100,8 +92,6 @@ def explained(words: List[str]) -> Optional[str]:
     kind, number = words if len(words) == 2 else ("reason", words[0])
     if len(words) > 2 or not re.fullmatch(r"[0-9]{1,2}", number):
         return None
-    if kind == "reason" and number in ("24", "25"):
-        return section("Reasons 24 and 25")
-    if kind in ("reason", "status"):
-        return section(f"{number} " if kind == "reason" else f"Status {number}:")
-    return row_of(kind.capitalize(), number) if kind in ("cause", "law") else None
+    if kind == "reason":
+        return row_of("Reason | Line", number) or row_of("Reason | Comes of", number)
+    return row_of(kind.capitalize(), number) if kind in ("status", "cause", "law") else None

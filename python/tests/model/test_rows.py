@@ -112,9 +112,11 @@ class Explain(unittest.TestCase):
         return caught.exception.line, caught.exception.reason
 
     def test_each_reason(self) -> None:
-        told = re.findall(r"^### (\d+) .*\n\nLine (\d+) of\s`([^`]*)`\.(?:(?!\n##)[\s\S])*?Mended:\s`([^`]*)`", EXPLAIN, re.M)
-        self.assertEqual([int(number) for number, *_ in told], list(range(1, 23)))
-        for number, line, refused, mended in told:
+        table = EXPLAIN.partition("| Reason | Line |")[2].partition("\n\n")[0].splitlines()[2:]
+        told = [[cell.strip(" `") for cell in re.split(r"(?<!\\)\|", row)[1:-1]] for row in table]
+        self.assertEqual([int(said.split()[0]) for said, *_ in told], list(range(1, 23)))
+        for said, line, refused, _, mended in told:
+            number = said.split()[0]
             with self.subTest(reason=number):
                 self.assertEqual(self.refusal(as_bytes(refused)), (int(line), int(number)))
                 self.assertEqual(model.refusals(as_bytes(mended)), [])
