@@ -5,7 +5,7 @@ $1 == "park" {
   number = substr($2, 2) + 0
   if (number > last) last = number
 }
-$1 == "block" && $2 == "none" { tell("nobody can go on:") }
+$1 == "block" && $2 == "none" { tell("line " NR ", nobody can go on:") }
 $1 == "wake" || $1 == "late" || $1 == "throw" || $1 == "end" { delete waits[$2] }
 $1 == "stop" { tell("at the end:") }
 function tell(where,   i) {

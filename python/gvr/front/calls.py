@@ -7,7 +7,7 @@ import sys
 import time
 from typing import Iterator, List, Optional, Sequence, Tuple
 
-from . import colour, endings, explain, usage
+from . import colour, endings, explain, usage, waiting
 from .comments import with_comments
 from .commands import BY_NAME, RUN_OPTIONS
 from .files import MOST_CHECKED, MOST_TEXT, Unread, read_text
@@ -37,9 +37,9 @@ def note_the_model() -> None:
         print(NOT_PROVED, file=sys.stderr, flush=True)
 
 
-def with_more(words: List[str], text: bytes, answer: Answer) -> Answer:
+def with_more(words: List[str], text: bytes, answer: Answer, is_stuck: bool = False) -> Answer:
     """The answer with what the front tells behind it."""
-    return answer._replace(complaint=answer.complaint + endings.told(words, text, answer))
+    return answer._replace(complaint=answer.complaint + endings.told(words, text, answer, is_stuck))
 
 
 def no_command(name: str, call: Call, why: str = "") -> Answer:
@@ -70,7 +70,9 @@ def run(words: List[str]) -> Answer:
         ended = subprocess.run([TOP / "tools/run_sources", *asked], input=text)
         return Answer(ended.returncode, b"", "")
     note_the_model()
-    return with_more(asked, text, show(asked, text, colour.how_to_draw()))
+    watched = waiting.Watch()
+    answer = show(asked, text, colour.how_to_draw(), watched.see if waiting.may_go_on(text) else None)
+    return with_more(asked, text, answer, watched.is_stuck)
 
 
 def formatted(file: Optional[str], call: Call) -> Tuple[bytes, Answer]:
@@ -138,7 +140,8 @@ def try_all(words: List[str]) -> Answer:
     for file in files:
         text = read_text(str(file), MOST_TEXT)
         asked = ["run", *(first_line_words(text) or [])]
-        answer = with_more(asked, text, ask(asked, text))
+        answer = ask(asked, text)
+        answer = with_more(asked, text, answer, waiting.is_stuck(answer.out))
         lines = answer.out if draw is None else b"".join(map(draw, answer.out.splitlines(True)))
         put(f"== {file.stem}\n".encode() + lines + answer.complaint.encode())
         if answer.status:

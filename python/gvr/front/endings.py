@@ -3,14 +3,14 @@ from typing import List, Optional, Sequence
 
 from . import network, usage, waiting
 from .commands import BY_NAME, RUN_OPTIONS
-from .program import Answer, ask
+from .program import WRITE_FAULT, Answer, ask
 from .words import read_call
 
 FAULT_OF_MAIN, NO_COMMAND, REFUSED, NOT_VERIFIED, NETWORK_FAULT = 1, 2, 3, 9, 10
 
 
 def stuck(words: Sequence[str], text: bytes) -> str:
-    """Who waited for what in a run whose main ended by LoopExit: the run is made again for that."""
+    """Who waited for what each time that a run was stuck: it is made again for that, but where threads decide."""
     call = read_call(BY_NAME["run"], words[1:])
     if call.has("--native") and call.value("--order") != "held":
         return ""
@@ -34,10 +34,11 @@ def refused(words: Sequence[str], text: bytes, complaint: Optional[str]) -> str:
     return refusal.shown(scenario, complaint) if scenario is not None else ""
 
 
-def told(words: List[str], text: bytes, answer: Answer) -> str:
-    """What is told behind the answer to these words and this text."""
+def told(words: List[str], text: bytes, answer: Answer, is_stuck: bool = False) -> str:
+    """What is told behind the answer to these words and this text, of a run that may have been stuck and gone on."""
     command = BY_NAME[words[0]]
-    if answer.status == FAULT_OF_MAIN and command.options[:1] == RUN_OPTIONS[:1]:
+    was_stuck = is_stuck and answer.status != WRITE_FAULT
+    if (was_stuck or answer.status == FAULT_OF_MAIN) and command.options[:1] == RUN_OPTIONS[:1]:
         return stuck(words, text)
     if answer.status == NO_COMMAND:
         return usage.wrong_words(command, read_call(command, words[1:]))

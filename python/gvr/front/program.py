@@ -4,12 +4,13 @@ import pathlib
 import subprocess
 import sys
 import tempfile
-from typing import IO, Callable, NamedTuple, Optional, Sequence
+from typing import IO, Callable, Iterator, NamedTuple, Optional, Sequence
 
 TOP = pathlib.Path(__file__).resolve().parents[3]
 NOT_PROVED = ("gvr: a model in Python answers, which nothing proves; ./build proves and builds the program, "
               "and ./gvr run --sources runs its sources")
 READ_FAULT, WRITE_FAULT = 4, 5
+PIECE = 1 << 16
 
 
 class Answer(NamedTuple):
@@ -45,27 +46,40 @@ def ask(words: Sequence[str], text: bytes) -> Answer:
     return Answer(answered.status, answered.out, f"gvr: {answered.complaint}\n" if answered.complaint else "")
 
 
-def show(words: Sequence[str], text: bytes, draw: Optional[Callable[[bytes], bytes]] = None) -> Answer:
-    """The same, with what it writes on the standard output as it comes, each line drawn where it is said how; `out` is
-    empty then."""
+def show(words: Sequence[str], text: bytes, draw: Optional[Callable[[bytes], bytes]] = None,
+         see: Optional[Callable[[bytes], None]] = None) -> Answer:
+    """The same, with what it writes on the standard output as it comes, each line drawn where it is said how, and each
+    piece seen by `see`; `out` is empty then."""
     program = built_program()
     if not program:
         answered = ask(words, text)
+        if see:
+            see(answered.out)
         lines = answered.out if draw is None else b"".join(map(draw, answered.out.splitlines(True)))
         return answered._replace(out=b"") if put(lines) else Answer(WRITE_FAULT, b"", "gvr: write fault\n")
     with as_input(text) as given:
-        how = subprocess.PIPE if draw else None
+        how = subprocess.PIPE if draw or see else None
         ran = subprocess.Popen([program, *words], stdin=given, stdout=how, stderr=subprocess.PIPE)
         try:
-            if draw and ran.stdout:
-                for line in ran.stdout:
-                    put(draw(line))
+            for piece in pieces(ran.stdout, is_by_line=draw is not None) if ran.stdout else ():
+                if see:
+                    see(piece)
+                if not put(draw(piece) if draw else piece):
+                    return Answer(WRITE_FAULT, b"", "gvr: write fault\n")
             assert ran.stderr
             complaint = ran.stderr.read().decode(errors="replace")
             return Answer(ran.wait(), b"", complaint)
         finally:
             ran.kill()
             ran.wait()
+
+
+def pieces(file: IO[bytes], is_by_line: bool) -> Iterator[bytes]:
+    """What comes, line by line or as it comes."""
+    if is_by_line:
+        yield from file
+    else:
+        yield from iter(lambda: os.read(file.fileno(), PIECE), b"")
 
 
 def put(text: bytes) -> bool:

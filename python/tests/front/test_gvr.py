@@ -90,8 +90,22 @@ class Run(Front):
         circle = str(TOP / "examples/circle.gvr")
         for ended in (self.call("run", circle), self.call("run", file=circle)):
             self.assertEqual(ended.stderr, "gvr: main ended by LoopExit: This operation would block forever\n"
-                             "nobody could go on:\n  g0 wait e\n  g1 acquire s\n  g2 qget q\n  g3 join g2\n")
+                             "nobody could go on, trace line 9:\n  g0 wait e\n  g1 acquire s\n  g2 qget q\n  g3 join g2\n")
             self.assertEqual(ended.returncode, 1)
+
+    def test_one_that_catches_it_and_goes_on_tells_it_each_time(self) -> None:
+        caught, trace = str(TOP / "examples/loop_exit_caught.gvr"), (TOP / "examples/loop_exit_caught.trace").read_text()
+        waits = "  g0 join g1\n  g1 join g2\n  g2 join g1\n"
+        told = f"nobody could go on, trace line 8:\n{waits}nobody could go on, trace line 16:\n{waits}"
+        for ended in (self.call("run", caught), self.call("run", file=caught), self.call("run", given=pathlib.Path(caught).read_text())):
+            self.assertEqual((ended.stdout, ended.stderr, ended.returncode), (trace, told, 0))
+        self.assertEqual(self.call("try", caught).stdout, f"== loop_exit_caught\n{trace}{told}")
+
+    def test_what_is_written_nowhere(self) -> None:
+        caught = str(TOP / "examples/loop_exit_caught.gvr")
+        with open("/dev/full", "w") as full:
+            ended = subprocess.run([GVR, "run", caught], stdout=full, stderr=subprocess.PIPE, text=True, env=self.environment(self.program))
+        self.assertEqual((ended.stderr, ended.returncode), ("gvr: write fault\n", 5))
 
     def test_wrong_words(self) -> None:
         for ended in (self.call("run", "--turns=05", HELLO), self.call("run", "--turns=05", file=HELLO)):
@@ -249,8 +263,8 @@ class Words(Front):
         self.assertEqual(ended.stderr, "gvr: usage: gvr run, fmt, wsgi, serve, storm or verify\nthere is no command rnu; did you mean run?\n")
 
     def test_explain(self) -> None:
-        self.assertEqual(self.first_line("explain", "8"), "8 number not in its one spelling")
-        self.assertEqual(self.first_line("explain", "status", "6"), "Status 6: budget spent")
+        self.assertEqual(self.first_line("explain", "8"), "Reason 8 number not in its one spelling")
+        self.assertEqual(self.first_line("explain", "status", "6"), "Status 6 budget spent")
         self.assertEqual(self.first_line("explain", "law", "2"), "Law 2 no line of a greenlet follows its end line")
         self.assertEqual(self.call("explain", "77").returncode, 2)
 

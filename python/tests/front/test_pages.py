@@ -15,7 +15,7 @@ class Explain(unittest.TestCase):
 
     def test_a_number_alone_is_a_reason(self) -> None:
         told = explain.explained(["8"]) or ""
-        self.assertTrue(told.startswith("8 number not in its one spelling\n"), told)
+        self.assertTrue(told.startswith("Reason 8 number not in its one spelling\n"), told)
 
     def test_others_are_unknown(self) -> None:
         for words in (["0"], ["99"], ["status", "11"], ["law", "7"], ["x"], ["law", "1", "2"], ["animal", "1"]):

@@ -107,11 +107,34 @@ class Colours(unittest.TestCase):
 
 class WhoWaits(unittest.TestCase):
     def test_a_circle(self) -> None:
-        self.assertEqual(waiting.who_waits(CIRCLE), ["g0 wait e", "g1 acquire s", "g2 qget q", "g3 join g2"])
+        self.assertEqual(waiting.blocks(CIRCLE), [(9, ["g0 wait e", "g1 acquire s", "g2 qget q", "g3 join g2"])])
 
-    def test_told_if_nobody_caught_it(self) -> None:
-        self.assertEqual(waiting.told_of(CIRCLE), "nobody could go on:\n  g0 wait e\n  g1 acquire s\n  g2 qget q\n  g3 join g2\n")
+    def test_told_of_each(self) -> None:
+        self.assertEqual(waiting.told_of(CIRCLE), "nobody could go on, trace line 9:\n  g0 wait e\n  g1 acquire s\n  g2 qget q\n  g3 join g2\n")
         self.assertEqual(waiting.told_of((TOP / "examples/hello.trace").read_bytes()), "")
+
+    def test_of_many_the_first_ones_and_the_last(self) -> None:
+        trace = b"start g0 main\n" + b"park g0 wait e\nblock none\nthrow g0 LoopExit\n" * 25
+        told = waiting.told_of(trace).splitlines()
+        self.assertEqual(told[:2] + told[-4:], ["nobody could go on, trace line 3:", "  g0 wait e", "  g0 wait e",
+                                                "and so 15 times more; at last:", "nobody could go on, trace line 75:", "  g0 wait e"])
+        self.assertEqual(len(told), 21)
+
+    def test_a_trace_in_pieces(self) -> None:
+        for size in (1, 3, 11, 4096):
+            watched = waiting.Watch()
+            for at in range(0, len(CIRCLE), size):
+                watched.see(CIRCLE[at : at + size])
+            self.assertTrue(watched.is_stuck, size)
+        watched = waiting.Watch()
+        watched.see(b"start g0 main\nblock none")
+        self.assertFalse(watched.is_stuck)
+
+    def test_which_scenarios_may_go_on(self) -> None:
+        for line in (b"  except LoopExit f", b"except Exception", b"    except any"):
+            self.assertTrue(waiting.may_go_on(b"def main\n" + line + b"\n"), line)
+        for line in (b"  except Timeout f", b"  # except any", b"  print 1"):
+            self.assertFalse(waiting.may_go_on(b"def main\n" + line + b"\n"), line)
 
 
 if __name__ == "__main__":

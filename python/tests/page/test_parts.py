@@ -50,7 +50,7 @@ class Changes(unittest.TestCase):
 
     def test_chapters(self) -> None:
         chapters = tour.chapters()
-        self.assertGreaterEqual(len(chapters), 36)
+        self.assertGreaterEqual(len(chapters), 28)
         for name, chapter in chapters.items():
             self.assertTrue(chapter["answer"] and chapter["changes"], name)
 
