@@ -1,5 +1,8 @@
 #!/usr/bin/env python3
-"""Writes the page, one file that needs nothing else: make_page.py MODULE.wasm PAGE.html"""
+"""Writes the page, one file that needs nothing else: make_page.py MODULE.wasm PAGE.html
+
+In place of the module a page may be named, whose module is taken: `make_page.py release/gvr.html PAGE.html` shows a change
+of the page's texts and scripts with no build."""
 import base64
 import gzip
 import hashlib
@@ -76,6 +79,14 @@ def packed(data):
     return base64.b64encode(gzip.compress(data, 9, mtime=0)).decode()
 
 
+def module(file):
+    """The module of a file, or of a page that has one."""
+    if file.suffix != ".html":
+        return file.read_bytes()
+    inside = re.search(r'<script [^>]*id="wasm">([^<]*)</script>', file.read_text())
+    return gzip.decompress(base64.b64decode(inside[1]))
+
+
 def main():
     read = lambda name: (HERE / name).read_text()
     # A text with a tag's end in it would end its element.
@@ -89,7 +100,7 @@ def main():
         "CURES": told(statements.cures()),
         "WORDS": told(words()),
         "PAGES": packed(pages.pages().encode()),
-        "WASM": packed(pathlib.Path(sys.argv[1]).read_bytes()),
+        "WASM": packed(module(pathlib.Path(sys.argv[1]))),
         "WORKER": read("picture.js") + read("source.js") + read("worker.js"),
         "SCRIPT": script,
     }

@@ -33,7 +33,9 @@ The commit is the one whose files it was made of. To make it again you need that
 def sources() -> List[Path]:
     """What the page is made from: the code of its crates, the texts that it shows, and what puts them together."""
     code = [it for crate in crates.crates_below("gvr_page") for it in (TOP / "crates" / crate / "src").rglob("*.rt")]
-    texts = [TOP / "examples/README.md", *TOP.glob("examples/*.gvr"), *(TOP / f"docs/{it}.md" for it in pages.SHOWN)]
+    lists = [TOP / "examples" / it for it in ("README.md", "patterns/README.md")]
+    examples = [it for folder in ("examples", "examples/patterns") for it in (TOP / folder).glob("*.gvr")]
+    texts = [*lists, *examples, *(TOP / f"docs/{it}.md" for it in pages.SHOWN)]
     tools = [it for it in (TOP / "tools/page").iterdir() if it.suffix in (".c", ".css", ".html", ".js")]
     tools += [TOP / f"tools/page/{it}.py" for it in ("lower", "make_module", "make_page", "pages", "statements", "tour")]
     return sorted([*code, *texts, *tools, TOP / "crates.txt"])
