@@ -7,7 +7,7 @@ from gvr.model.syntax import WORDS
 
 from .advice import ONE_WORD, RESERVED_ROW, VALUES, advice
 from .explain import reasons
-from .files import nth_line
+from .files import MOST_TEXT, nth_line
 from .usage import nearest
 
 # How many refusals of one text are shown, and how wide a line is shown.
@@ -39,8 +39,24 @@ def byte_at(text: bytes, refusal: Refusal) -> int:
     return line[at] if 0 <= at < len(line) else -1
 
 
+def other_kind(text: bytes, refusal: Refusal) -> str:
+    """Where an object or a function of another kind is wanted: how the name is declared. Nothing of other refusals."""
+    found = re.search(rb"^ *((" + KINDS + rb"|rawdef|def) " + re.escape(refusal.word.encode()) + rb"\b.*)$", text, re.M)
+    if refusal.reason != 17 or not refusal.word or not found:
+        return ""
+    declared = "function" if found[2].endswith(b"def") else "object"
+    first = refusal.wanted.removeprefix("a ").split(" ")[0].encode()
+    wanted = "object" if re.fullmatch(KINDS, first) else "function" if first in (b"def", b"rawdef") else ""
+    if wanted != "object" and wanted != declared:
+        return ""
+    number = text.count(b"\n", 0, found.start(1)) + 1
+    return f"line {number} declares it: {found[1].decode('ascii', 'replace')}"
+
+
 def wanted_there(text: bytes, refusal: Refusal) -> str:
     """What was wanted at the caret."""
+    if refusal.reason == 1:
+        return f"wanted: at most {MOST_TEXT} bytes in all"
     if refusal.reason == 2:
         return OF_BYTES.get(byte_at(text, refusal), "a byte that is not printable ASCII")
     return f"wanted: {refusal.wanted}" if refusal.wanted else ""
@@ -72,6 +88,8 @@ def fitting(writes: Sequence[str], line: str) -> List[str]:
 def meant(text: bytes, refusal: Refusal) -> List[str]:
     """What people mean by such a line, and what they write."""
     line, word = line_of(text, refusal.line), refusal.word
+    if declared := other_kind(text, refusal):
+        return [declared]
     row = advice(refusal.reason, line, word, is_object(text, word), is_parameter(text, refusal.line, word))
     is_vague = row is None or row.wrote[0] in ONE_WORD or (row.wrote[0] in VALUES and " <- " in line)
     guess = likely(text, refusal) if is_vague else ""

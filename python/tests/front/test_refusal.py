@@ -66,7 +66,36 @@ class Table(unittest.TestCase):
                 self.assertEqual(refusal.all_refusals(as_text(wrote))[0].reason, row.reason, wrote)
 
 
+class Reasons(unittest.TestCase):
+    """Each text of the table of reasons: its line, the word under the caret, and what is wanted or meant there."""
+
+    WORDS = {1: "#", 2: "?print", 3: "", 4: "", 5: "foo", 6: "", 7: "2", 8: "n", 9: "1000000001", 10: "Q", 11: "end", 12: "print",
+             13: "event", 14: "end", 15: "x", 16: "e", 17: "e", 18: "w", 19: "sleep", 20: "timeout", 21: "true", 22: "e256"}
+
+    def test_each_shows_its_word_and_what_is_wanted(self) -> None:
+        rows = explain.table("Reason | Line")
+        self.assertEqual([int(it[0].split(" ")[0]) for it in rows], sorted(self.WORDS))
+        for said, line, wrote, *_ in rows:
+            wrote, number = wrote.strip("`"), int(said.split(" ")[0])
+            text = eval(wrote) if wrote.startswith('"') else wrote.replace("\\|", "\n") + "\n"
+            first = refusal.all_refusals(text.encode())[0]
+            lines = refusal.drawn(text.encode(), first)
+            source, caret = lines[0].partition(" | ")[2], lines[1].partition(" | ")[2]
+            with self.subTest(said):
+                self.assertEqual((first.reason, first.line), (number, int(line)))
+                self.assertTrue(lines[0].lstrip().startswith(f"{line} | "))
+                self.assertEqual(source[caret.index("^"):].strip(" ").split(" ")[0], self.WORDS[number])
+                self.assertRegex(caret, r"\^ wanted: \w|\^ a tab: ")
+
+
 class Drawn(unittest.TestCase):
+    def test_a_name_of_another_kind(self) -> None:
+        cases = {"group e\ndef main\n  set e\nend\n": "line 1 declares it: group e",
+                 "def w\nend\ndef main\n  set w\nend\n": "line 1 declares it: def w",
+                 "event e\nrawdef r v\nend\ndef main\n  spawn r 1\nend\n": "line 2 declares it: rawdef r v"}
+        for text, told in cases.items():
+            self.assertEqual(shown(text.encode())[2:], [f"    = {told}"], text)
+
     def test_as_a_whole(self) -> None:
         self.assertEqual(shown(b"sem s\ndef main\nend\n"), [
             "  1 | sem s", "    |      ^ wanted: a number from 0 to 1000000",
