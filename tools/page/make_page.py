@@ -113,4 +113,5 @@ def main():
     pathlib.Path(sys.argv[2]).write_text(page.replace("SCRIPT_HASH", f"sha256-{mark}", 1))
 
 
-main()
+if __name__ == "__main__":
+    main()

@@ -1,5 +1,7 @@
 """What the page has of the pages: the chapters of TOUR, the statements of LANGUAGE, the pages as markup."""
+import subprocess
 import sys
+import tempfile
 import unittest
 import xml.etree.ElementTree as Tree
 from pathlib import Path
@@ -7,6 +9,7 @@ from typing import List, Optional, Tuple
 
 TOP = Path(__file__).resolve().parents[3]
 sys.path.insert(0, str(TOP / "tools/page"))
+import make_page  # noqa: E402
 import pages  # noqa: E402
 import statements  # noqa: E402
 import tour  # noqa: E402
@@ -47,6 +50,29 @@ class Changes(unittest.TestCase):
         lines = ["def main", "try", "print 1", "except any", "if true", "end", "end", "end"]
         wanted = ["def main", "  try", "    print 1", "  except any", "    if true", "    end", "  end", "end"]
         self.assertEqual(tour.indented(lines), wanted)
+
+    def test_the_patterns_are_a_group_of_the_list(self) -> None:
+        groups = {it["title"]: it["examples"] for it in make_page.examples()}
+        listed = [it["name"] for those in groups.values() for it in those]
+        self.assertEqual(len(listed), len(set(listed)))
+        self.assertEqual(list(groups)[-1], "Patterns")
+        self.assertEqual([it["name"] for it in groups["Patterns"]], sorted(it.stem for it in TOP.glob("examples/patterns/*.gvr")))
+        for it in groups["Patterns"]:
+            self.assertEqual(it["text"].partition("\n")[0], f"# {it['question']}")
+            self.assertTrue(it["answer"], it["name"])
+
+    def test_entries_of_the_reasons(self) -> None:
+        entries = make_page.explain()
+        self.assertEqual(sorted(entries), list(range(1, 23)))
+        self.assertEqual(entries[6]["parts"][1:], [["refused", "def main\nprint\nend\n"], ["mended", "def main\nprint 1\nend\n"]])
+        self.assertEqual([kind for kind, _ in entries[1]["parts"]], ["text"])
+
+    def test_the_module_of_a_page(self) -> None:
+        with tempfile.TemporaryDirectory() as folder:
+            module, page = Path(folder) / "page.wasm", Path(folder) / "page.html"
+            module.write_bytes(b"\0asm of a test")
+            subprocess.run([TOP / "tools/page/make_page.py", module, page], check=True)
+            self.assertEqual(make_page.module(page), b"\0asm of a test")
 
     def test_chapters(self) -> None:
         chapters = tour.chapters()
