@@ -113,7 +113,7 @@ class Explain(unittest.TestCase):
 
     def test_each_reason(self) -> None:
         told = re.findall(r"^### (\d+) .*\n\nLine (\d+) of\s`([^`]*)`\.(?:(?!\n##)[\s\S])*?Mended:\s`([^`]*)`", EXPLAIN, re.M)
-        self.assertEqual([int(number) for number, *_ in told], list(range(1, 23)))
+        self.assertEqual([int(number) for number, *_ in told], [*range(1, 23), 26])
         for number, line, refused, mended in told:
             with self.subTest(reason=number):
                 self.assertEqual(self.refusal(as_bytes(refused)), (int(line), int(number)))
