@@ -6,7 +6,7 @@ pub mod Complete
 mod ExpressionLaws
 mod InWords
 mod Lines
-mod LongForms
+pub mod LongForms
 mod Named
 mod Parts
 mod PhraseLaws

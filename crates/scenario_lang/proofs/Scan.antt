@@ -9,7 +9,6 @@ use Rattle.scenario_tree.specs.declared.tree.Scenario.{Scenario}
 use Rattle.scenario_grammar.specs.declared.place.Place.{Place}
 use Rattle.scenario_grammar.specs.Building.{Building}
 use Rattle.scenario_grammar.specs.Layout.{Line, lines, lines_from, with_line, drop_blanks, is_end, is_text_byte, is_ended, is_blank, may_be_long, most_bytes, most_of}
-use Rattle.scenario_grammar.specs.declared.limits.TheConstants.{MOST_TEXT}
 use Rattle.scenario_grammar.specs.Parsed.{finished, read_line, read_lines, read_text, reading, nothing_yet, standing, scenario}
 use Rattle.scenario_grammar.specs.Place.{at_the_end, line_at, last_line, place_in_bytes, too_large}
 use Rattle.scenario_grammar.specs.declared.reason.TextReason.{TextReason}
@@ -222,14 +221,6 @@ unfolding reading
 outcome_all bytes h =
     let p : place_in_bytes bytes ≡ fault_from 1 bytes = cond-false _ _ _ (le-ltb (most_bytes bytes) (length bytes) h) ∙ fault_is 1 bytes in
     ap (λ o. choose o (read_text bytes)) p ∙ ap (choose (fault_from 1 bytes)) (read_all bytes)
-
--- what every text may have this one may
-pub short_for_all : (bytes : List ℕ) → length bytes ≤ MOST_TEXT → length bytes ≤ most_bytes bytes
-short_for_all bytes h = by (may_be_long bytes)
-  where
-    by : (long : Bool) → length bytes ≤ most_of long
-    by true = omega (arith, h)
-    by false = h
 
 pub too_long : (bytes : List ℕ) → most_bytes bytes < length bytes → reading bytes ≡ Err (record { line = line_at (most_bytes bytes) bytes; reason = text_number (too_large (may_be_long bytes)) })
 unfolding reading

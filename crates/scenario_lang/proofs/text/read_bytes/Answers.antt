@@ -1,12 +1,13 @@
 use Rattle.std.proofs.Common.{◌≡◌, ◌<◌, ◌≤◌, length, ap, subst, ◌∙◌, arith}
 use Rattle.scenario_grammar.specs.Layout.{most_of}
 use Rattle.scenario_grammar.specs.declared.limits.TheConstants.{MOST_TEXT}
+use Rattle.scenario_grammar.proofs.LongForms.{within_short}
 use Rattle.scenario_lang.proofs.LongTexts.{taken_whole}
-use Rattle.scenario_lang.proofs.Scan.{outcome_all, short_for_all, too_long_by}
+use Rattle.scenario_lang.proofs.Scan.{outcome_all, too_long_by}
 use Rattle.scenario_lang.proofs.text.read_bytes.Goals as goal
 
 pub returns-then-bytes-le-MOST_TEXT : goal.returns-then-bytes-le-MOST_TEXT
-returns-then-bytes-le-MOST_TEXT c = rw (outcome_all c.args.bytes.now (short_for_all c.args.bytes.now c.if-bytes-le-MOST_TEXT.true)) c.read_text.ensures
+returns-then-bytes-le-MOST_TEXT c = rw (outcome_all c.args.bytes.now (within_short c.args.bytes.now c.if-bytes-le-MOST_TEXT.true)) c.read_text.ensures
 
 pub slice_bounds-says_long-end : goal.slice_bounds-says_long-end
 slice_bounds-says_long-end c = let more = c.if-bytes-le-MOST_TEXT.false in taken_whole MOST_TEXT c.args.bytes.now (omega (arith, more))
