@@ -25,11 +25,11 @@ use std::alloc::{AllocError, Global};
 use std::marker::Model;
 use std::rc::Rc;
 
-/// What bodies are run from: the objects, the functions and the blocks of a scenario, which has at most `MOST_OBJECTS`
-/// objects and `MOST_FUNCTIONS` functions, and no call with more arguments than a function may have parameters. Each
-/// name has its number in a table, so that a look-up compares O(log n) names. The names of the blocks have theirs
-/// beside them: where a body is run over its own code, what it names by number is found with one comparison. The bodies
-/// that run share the blocks.
+/// What bodies are run from: the objects, the functions and the blocks of a scenario, which has at most `MOST_DECLARED`
+/// objects and as many functions, and no call with more arguments than a function may have parameters. Each name has
+/// its number in a table, so that a look-up compares O(log n) names. The names of the blocks have theirs beside them:
+/// where a body is run over its own code, what it names by number is found with one comparison. The bodies that run
+/// share the blocks.
 #[derive(Drop)]
 pub struct Code {
     profile: u8,

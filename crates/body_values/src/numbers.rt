@@ -1,6 +1,6 @@
 //! The numbers of objects and functions by their names.
 ghost use Rattle.std.specs.Prelude.{◌≤◌, length, map, IfOk};
-ghost use Rattle.scenario_tree.specs.declared.limits.TheConstants.{MOST_FUNCTIONS, MOST_OBJECTS};
+ghost use Rattle.scenario_tree.specs.declared.limits.TheConstants.{MOST_DECLARED};
 ghost use Rattle.body_values.specs.Numbers.{AreNames, NumbersFunctions, NumbersObjects};
 
 use gv_values::Name;
@@ -18,7 +18,7 @@ pub struct NameNumbers {
 
 /// The number of the first object of each name.
 pub fn number_objects(alloc: Global, objects: &[Declaration]) -> Result<Names<u32>, AllocError>
-    requires small { length objects.now ≤ MOST_OBJECTS }
+    requires small { length objects.now ≤ MOST_DECLARED }
     ensures { IfOk result (λ numbers. NumbersObjects numbers objects.now) }
 {
     let mut numbers = Names::new(alloc);
@@ -30,7 +30,7 @@ pub fn number_objects(alloc: Global, objects: &[Declaration]) -> Result<Names<u3
 
 /// The number of the first function of each name.
 pub fn number_functions(alloc: Global, functions: &[Function]) -> Result<Names<u32>, AllocError>
-    requires small { length functions.now ≤ MOST_FUNCTIONS }
+    requires small { length functions.now ≤ MOST_DECLARED }
     ensures { IfOk result (λ numbers. NumbersFunctions numbers functions.now) }
 {
     let mut numbers = Names::new(alloc);

@@ -18,7 +18,7 @@ use Rattle.machine.specs.Status.{status, err_line, line_of}
 use Rattle.scenario_grammar.specs.Place.{place}
 use Rattle.scenario_grammar.specs.Spells.{Spells}
 use Rattle.scenario_rules.specs.Rules.{IsWellFormed, place_of}
-use Rattle.scenario_grammar.specs.declared.limits.TheConstants.{MOST_TEXT}
+use Rattle.scenario_grammar.specs.declared.limits.TheConstants.{MOST_LONG_TEXT}
 
 -- a line on err
 abbrev pub line : List ℕ → List ℕ
@@ -91,9 +91,9 @@ answer_of_session s = record {
   err = if s.closes then [] else line (codes "limit of the connection");
 }
 
--- the most bytes of a text that are read: one more than it may have
+-- the most bytes of a text that are read: one more than any may have
 abbrev pub most_read : ℕ
-most_read = MOST_TEXT + 1
+most_read = MOST_LONG_TEXT + 1
 
 -- the port of a session whose bytes come from the input
 abbrev pub no_port : ℕ

@@ -38,7 +38,7 @@ use machine_blocks::blocks_are_told;
 use machine_trace_laws::blocks_are_quiet;
 use run_command::run_scenario;
 use scenario_check::Checked;
-use scenario_lang::{MOST_TEXT, Scenario, print};
+use scenario_lang::{MOST_LONG_TEXT, Scenario, print};
 use scenario_reading::read_scenario;
 use std::alloc::Global;
 use world::World;
@@ -181,7 +181,7 @@ fn answer_input<S: Source, K: Sink, W: World>(
     ensures read_whole { (left : List ℕ) → S.remaining input.old ≡ Some left →
         verdict_status result ≢ 4 → verdict_status result ≢ 7 → S.remaining input.new ≡ Some (drop most_read left) }
 {
-    match read_limited(alloc, input, MOST_TEXT) {
+    match read_limited(alloc, input, MOST_LONG_TEXT) {
         Err(ReadRefusal::Fault) => Verdict::Broke(Failure::Read),
         Err(ReadRefusal::Memory) => Verdict::Broke(Failure::Memory),
         Ok(bytes) => answer_text(alloc, command, bytes.as_slice(), out, native),

@@ -1,6 +1,6 @@
 //! The state before the first move.
 ghost use Rattle.std.specs.Prelude.{◌≡◌, ◌≤◌, IfOk, codes, length};
-ghost use Rattle.scenario_tree.specs.declared.limits.TheConstants.{MOST_OBJECTS};
+ghost use Rattle.scenario_tree.specs.declared.limits.TheConstants.{MOST_DECLARED};
 ghost use Rattle.machine.specs.Expressions.{function_number};
 ghost use Rattle.machine.specs.Run.{first_state};
 ghost use Rattle.hub_objects.specs.Counted.{AreCounted};
@@ -34,7 +34,7 @@ impl Hub {
     #[tactic(auto, using(crate::proofs::Sounds::sound_none))]
     pub fn new(alloc: Global, code: Code) -> Result<Hub, AllocError>
         requires counted { AreCounted (first_state code).objects }
-        requires few { length code.objects ≤ MOST_OBJECTS }
+        requires few { length code.objects ≤ MOST_DECLARED }
         ensures { IfOk result (λ hub. hub ≡ first_state code) }
     {
         let objects = Objects::declared(alloc, code.objects())?;

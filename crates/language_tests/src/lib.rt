@@ -1,4 +1,4 @@
-//! Tests of the public calls of the scenario language: texts of both profiles, their printed form, and
+//! Tests of the public calls of the scenario language: texts of all profiles, their printed form, and
 //! the rules that a scenario keeps.
 #![tactic(auto)]
 

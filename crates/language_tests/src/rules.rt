@@ -33,6 +33,15 @@ const ROWS: &[Row] = &[
         (4, 17),
     ),
     ("profile 2\nchannel c\ndef main\nqshut c\nend\n", (4, 17)),
+    ("profile 3\nqueue q fifo 1\ndef main\nset q\nend\n", (4, 17)),
+    (
+        "profile 3\nqueue q fifo 1\ndef main\nprint counter q\nend\n",
+        (4, 17),
+    ),
+    ("profile 3\ndef w\nend\ndef main\nprint w\nend\n", (5, 17)),
+    ("profile 3\ndef w\nend\ndef main\nset w\nend\n", (5, 17)),
+    ("profile 3\ndef main\nset x\nend\n", (3, 15)),
+    ("profile 3\nevent e\ndef main\nlet e 1\nend\n", (4, 17)),
     ("profile 2\ndef main\ncput c 1\nend\n", (3, 15)),
     (
         "profile 2\nchannel c\nrawdef r v\ncput c 1\nend\ndef main\nend\n",

@@ -125,6 +125,45 @@ const BORDERS: &[(Parts, (u32, u8))] = &[
         (4, 1),
     ),
     (
+        ("profile 2\ndef main\nend\n#", "x", 1048576, "\n", "", ""),
+        (4, 1),
+    ),
+    (
+        (
+            "profile 3\ndef main\nprint 1\nend\n#",
+            "x",
+            16777183,
+            "\n",
+            "",
+            "",
+        ),
+        (0, 0),
+    ),
+    (
+        (
+            "profile 3\ndef main\nprint 1\nend\n#",
+            "x",
+            16777184,
+            "\n",
+            "",
+            "",
+        ),
+        (5, 26),
+    ),
+    // The line of the profile is ended by the byte 1048576, or by the one behind it.
+    (
+        ("#", "x", 1048564, "\nprofile 3\ndef main\nend\n", "", ""),
+        (0, 0),
+    ),
+    (
+        ("#", "x", 1048565, "\nprofile 3\ndef main\nend\n", "", ""),
+        (2, 1),
+    ),
+    (
+        ("profile  3\ndef main\nend\n#", "x", 1048576, "\n", "", ""),
+        (4, 1),
+    ),
+    (
         ("def main\n", "if true\n", 31, "print 1\n", "end\n", "end\n"),
         (0, 0),
     ),
@@ -257,6 +296,7 @@ const REASONS: &[(u8, &str)] = &[
     (1, "text longer than 1048576 bytes"),
     (9, "number out of range"),
     (22, "too many declarations"),
+    (26, "text longer than 16777216 bytes"),
 ];
 
 #[test]

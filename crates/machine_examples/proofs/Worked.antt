@@ -192,6 +192,14 @@ rows =
     within usual_turns usual_moves 5 (codes "sem s 0|def w|x <- acquire s within 10|print x|end|def main|a <- spawn w|sleep 9|release s|join a|end|")
     (codes "start g0 main|park g0 sleep until 9|start g1 w|park g1 acquire s until 10|block 9|turn 1 elapsed 9|wake g0|park g0 join g1|turn 2 nothing 14|wake g1|print g1 true|end g1 value none|turn 3 nothing 19|wake g0|end g0 value none|stop value none turns 4 moves 6|")
     0 (codes "") ∷
+    -- later_words_are_names
+    row (codes "profile 3|def cancel gadd|print gadd|end|def main|gdrop <- spawn cancel 5|join gdrop|end|")
+    (codes "start g0 main|park g0 join g1|start g1 cancel|print g1 5|end g1 value none|turn 1 nothing 0|wake g0|end g0 value none|stop value none turns 2 moves 3|")
+    0 (codes "") ∷
+    -- longest_sleep
+    row (codes "profile 3|def main|sleep 1000000000|end|")
+    (codes "start g0 main|park g0 sleep until 1000000000|block 1000000000|turn 1 elapsed 1000000000|wake g0|end g0 value none|stop value none turns 2 moves 1|")
+    0 (codes "") ∷
     []
 
 pub come_to : map comes_to rows ≡ map told rows

@@ -24,8 +24,8 @@ use Rattle.scenario_rules.specs.declared.mention.Wanted.{Wanted}
 use Rattle.scenario_rules.specs.Declarations.{declared_as, function_as, function_entry, named_functions, named_objects, object_entry, parameters, repeated, different, given_names, is_kind}
 use Rattle.scenario_rules.specs.Mention.{block_mentions, mentions, on}
 use Rattle.scenario_rules.specs.declared.limits.TheConstants.{MOST_LOCAL_NAMES, MOST_TIMEOUTS}
-use Rattle.scenario_tree.specs.declared.limits.TheConstants.{MOST_FUNCTIONS, MOST_OBJECTS, MOST_PARAMETERS}
-use Rattle.scenario_rules.specs.Rules.{IsWellFormed, function_refusals, is_hub_in_raw_body, is_too_deep, is_undeclared, is_wrong_count, is_wrong_head, is_wrong_kind, past, refused, refused_names, word_refusals}
+use Rattle.scenario_tree.specs.declared.limits.TheConstants.{MOST_PARAMETERS}
+use Rattle.scenario_rules.specs.Rules.{IsWellFormed, function_refusals, is_hub_in_raw_body, is_too_deep, is_undeclared, is_wrong_count, is_wrong_head, is_wrong_kind, most_functions, most_objects, past, refused, refused_names, word_refusals}
 use Rattle.machine.specs.Expressions.{function_number, object_number}
 use Rattle.machine.specs.Greenlets.{no_function}
 use Rattle.machine.proofs.Halves.{right}
@@ -225,5 +225,5 @@ pub well-formed-fits : (c : Scenario) → IsWellFormed c → IsFitText c
 unfolding IsWellFormed
 well-formed-fits c h =
     none-each (function_refusals c) (is_fit_function c) (function-fits c) c.functions
-    (none-right (refused_names reason.TooMany (past MOST_OBJECTS (named_objects c)) ++ refused_names reason.TooMany (past MOST_FUNCTIONS (named_functions c))
+    (none-right (refused_names reason.TooMany (past (most_objects c.profile) (named_objects c)) ++ refused_names reason.TooMany (past (most_functions c.profile) (named_functions c))
     ++ refused_names reason.DeclaredTwice (repeated (named_objects c ++ named_functions c))) (flat_map (function_refusals c) c.functions) h)

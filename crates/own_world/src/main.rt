@@ -7,7 +7,7 @@ mod counting;
 use crate::counting::{AskedWorld, CountedSink};
 use gv_io::{Sink, StdSink, StdSource, read_limited};
 use hub_engine::{Budgets, Engine, EngineEnd};
-use scenario_lang::MOST_TEXT;
+use scenario_lang::MOST_LONG_TEXT;
 use scenario_reading::read_scenario;
 use std::io;
 use std::process::ExitCode;
@@ -31,7 +31,8 @@ fn runs(rt: &HostRuntime) -> io::Result<bool> {
         sink: StdSink::new(alloc, rt.stdout().lock(), 4096)?,
         bytes: 0,
     };
-    let Ok(text) = read_limited(alloc, &mut StdSource::new(rt.reader()), MOST_TEXT) else {
+    let mut input = StdSource::new(rt.reader());
+    let Ok(text) = read_limited(alloc, &mut input, MOST_LONG_TEXT) else {
         return Ok(false);
     };
     let Ok(scenario) = read_scenario(alloc, text.as_slice()) else {

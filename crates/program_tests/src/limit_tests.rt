@@ -1,5 +1,6 @@
 //! Texts at the limits, through the call.
 use crate::calls::{PRINTED_ONE, Row, holds, padded};
+use gv_values::decimal_text;
 use std::alloc::{AllocError, Global};
 
 const SPAWNS_WITHOUT_END: Row<'static> = Row {
@@ -20,22 +21,16 @@ fn greenlet_limit(rt: HostRuntime) {
     assert!(rt; holds(rt.alloc(), &SPAWNS_WITHOUT_END) == Ok(true));
 }
 
-/// The text of one print, and the beginning of a comment.
-const PRINTS_ONE_AND_REMARKS: &[u8] = b"def main\nprint 1\nend\n#";
+/// What a run leaves: its status, and its bytes on out and err.
+type Left = (u8, &'static [u8], &'static [u8]);
 
-/// Whether the text of one print, with a comment of so many bytes behind it, leaves this.
-fn leaves(
-    alloc: Global,
-    bytes: usize,
-    status: u8,
-    out: &[u8],
-    err: &[u8],
-) -> Result<bool, AllocError> {
-    let text = padded(alloc, PRINTS_ONE_AND_REMARKS, b'x', bytes, b"\n")?;
+/// Whether a run of the text leaves this.
+fn leaves(alloc: Global, text: &[u8], left: Left) -> Result<bool, AllocError> {
+    let (status, out, err) = left;
     let row = Row {
         name: "",
         words: "run",
-        input: &text,
+        input: text,
         piece: 4096,
         failing: &[],
         room: 1000,
@@ -47,9 +42,89 @@ fn leaves(
     holds(alloc, &row)
 }
 
+/// Whether this text with so many bytes more in its last line leaves that.
+fn remark_leaves(alloc: Global, text: &[u8], bytes: usize, left: Left) -> Result<bool, AllocError> {
+    let text = padded(alloc, text, b'x', bytes, b"\n")?;
+    leaves(alloc, &text, left)
+}
+
 #[test]
 fn text_limit(rt: HostRuntime) {
-    assert!(rt; leaves(rt.alloc(), 1048553, 0, PRINTED_ONE, b"") == Ok(true));
+    let text = b"def main\nprint 1\nend\n#";
+    let longest = remark_leaves(rt.alloc(), text, 1048553, (0, PRINTED_ONE, b""));
+    assert!(rt; longest == Ok(true));
     let line = b"gvr: line 4: reason 1: text longer than 1048576 bytes\n";
-    assert!(rt; leaves(rt.alloc(), 1048554, 3, b"", line) == Ok(true));
+    let longer = remark_leaves(rt.alloc(), text, 1048554, (3, b"", line));
+    assert!(rt; longer == Ok(true));
+}
+
+#[test]
+fn long_text_limit(rt: HostRuntime) {
+    let text = b"profile 3\ndef main\nprint 1\nend\n#";
+    let longest = remark_leaves(rt.alloc(), text, 16777183, (0, PRINTED_ONE, b""));
+    assert!(rt; longest == Ok(true));
+    let line = b"gvr: line 5: reason 26: text longer than 16777216 bytes\n";
+    let longer = remark_leaves(rt.alloc(), text, 16777184, (3, b"", line));
+    assert!(rt; longer == Ok(true));
+}
+
+/// Appends lines so often, each time with another number between them.
+fn push_numbered(
+    text: &mut Vec<u8>,
+    count: u64,
+    front: &[u8],
+    back: &[u8],
+) -> Result<(), AllocError> {
+    for number in 0..count {
+        text.extend_from_slice(front)?;
+        decimal_text(number, text)?;
+        text.extend_from_slice(back)?;
+    }
+    Ok(())
+}
+
+/// Whether a text of the profile with so many objects and functions, main counted, leaves this.
+fn declared_leaves(
+    alloc: Global,
+    profile: &[u8],
+    objects: u64,
+    functions: u64,
+    left: Left,
+) -> Result<bool, AllocError> {
+    let mut text = Vec::new(alloc);
+    text.extend_from_slice(profile)?;
+    push_numbered(&mut text, objects, b"event e", b"\n")?;
+    push_numbered(&mut text, functions - 1, b"def f", b"\nend\n")?;
+    text.extend_from_slice(b"def main\nprint 1\nend\n")?;
+    leaves(alloc, &text, left)
+}
+
+#[test]
+fn limit_of_declarations(rt: HostRuntime) {
+    let most = declared_leaves(rt.alloc(), b"profile 2\n", 256, 256, (0, PRINTED_ONE, b""));
+    assert!(rt; most == Ok(true));
+    let objects = b"gvr: line 258: reason 22: too many declarations\n";
+    let more = declared_leaves(rt.alloc(), b"profile 2\n", 257, 1, (3, b"", objects));
+    assert!(rt; more == Ok(true));
+    let functions = b"gvr: line 514: reason 22: too many declarations\n";
+    let more = declared_leaves(rt.alloc(), b"profile 2\n", 0, 257, (3, b"", functions));
+    assert!(rt; more == Ok(true));
+}
+
+#[test]
+fn limit_of_declarations_in_profile_3(rt: HostRuntime) {
+    let most = declared_leaves(
+        rt.alloc(),
+        b"profile 3\n",
+        20000,
+        20000,
+        (0, PRINTED_ONE, b""),
+    );
+    assert!(rt; most == Ok(true));
+    let objects = b"gvr: line 20002: reason 22: too many declarations\n";
+    let more = declared_leaves(rt.alloc(), b"profile 3\n", 20001, 1, (3, b"", objects));
+    assert!(rt; more == Ok(true));
+    let functions = b"gvr: line 40002: reason 22: too many declarations\n";
+    let more = declared_leaves(rt.alloc(), b"profile 3\n", 0, 20001, (3, b"", functions));
+    assert!(rt; more == Ok(true));
 }

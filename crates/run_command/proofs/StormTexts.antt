@@ -42,6 +42,7 @@ use Rattle.scenario_grammar.specs.Layout.{Line, Word, lines, lines_from, is_blan
 use Rattle.scenario_grammar.specs.Phrase.{phrase_tokens}
 use Rattle.scenario_grammar.specs.Spells.{AreTreeLines, Spells}
 use Rattle.scenario_grammar.specs.Token.{◌⊕◌, ◌▹◌, only_if, name, token_of, token_in, known_in, number_token, in_64_bits, begins_number}
+use Rattle.scenario_grammar.proofs.LongForms.{within_short}
 use Rattle.scenario_rules.specs.Mention.{statement_mentions}
 use Rattle.scenario_rules.specs.Rules.{IsWellFormed}
 use Rattle.run_command.specs.Storming.{storm_text, storm_head, storm_tail}
@@ -264,7 +265,7 @@ storm_spelt n (b ∷ bs) some d spelling value short small =
     let long : length (text_with w) ≡ length storm_head + (length w + length storm_tail) = length-append storm_head (w ++ storm_tail) ∙ ap (λ m. length storm_head + m) (length-append w storm_tail) in
     record {
       text = record {
-        short = omega (arith, long, short);
+        short = within_short (text_with w) (omega (arith, long, short));
         printable = list_all-append is_text_byte w storm_tail ∙ and_from (list_all is_text_byte w) (list_all is_text_byte storm_tail) (digits_not is_text_byte w a_text_byte d) refl;
         ended = ap is_ended (sym (append_assoc storm_head w storm_tail)) ∙ ended_append (storm_head ++ w) 10 rest;
         spaced = ap (list_all is_spaced) at;

@@ -5,9 +5,9 @@ ghost use Rattle.scenario_tree.specs.declared.tree.Scenario.{Scenario as AnyScen
 ghost use Rattle.scenario_rules.specs.declared.mention.Mention.{Mention as AnyMention};
 ghost use Rattle.scenario_rules.specs.Declarations.{declarations, different, given_by, given_names, named_functions, named_objects, parameters, repeated};
 ghost use Rattle.scenario_rules.specs.Mention.{mentions};
-ghost use Rattle.scenario_rules.specs.Rules.{first_after, function_refusals, is_wrong_head, past, place_of, refused, refused_names, word_refusals};
+ghost use Rattle.scenario_rules.specs.Rules.{first_after, function_refusals, is_wrong_head, most_functions, most_objects, past, place_of, refused, refused_names, word_refusals};
 ghost use Rattle.scenario_rules.specs.declared.limits.TheConstants.{MOST_LOCAL_NAMES};
-ghost use Rattle.scenario_tree.specs.declared.limits.TheConstants.{MOST_FUNCTIONS, MOST_OBJECTS, MOST_PARAMETERS};
+ghost use Rattle.scenario_tree.specs.declared.limits.TheConstants.{MOST_PARAMETERS};
 ghost use Rattle.name_table.specs.Tables.{Holds};
 
 use crate::blocks::function_mentions;
@@ -18,7 +18,9 @@ use name_table::Names;
 use scenario_grammar::{Place, RuleReason};
 use scenario_lang::is_main;
 use scenario_rules::{Declared, MOST_LOCAL_NAMES, Mention};
-use scenario_tree::{Function, Items, MOST_FUNCTIONS, MOST_OBJECTS, MOST_PARAMETERS, Scenario};
+use scenario_tree::{
+    Function, Items, MOST_DECLARED, MOST_FUNCTIONS, MOST_OBJECTS, MOST_PARAMETERS, Scenario,
+};
 use std::alloc::{AllocError, Global};
 
 fn is_wrong_head(function: &Function) -> bool
@@ -110,18 +112,44 @@ fn judge_functions(
     Ok(least)
 }
 
+/// The most objects of a scenario of this profile.
+fn most_objects(profile: u8) -> usize
+    ensures { result ≡ most_objects profile }
+{
+    if profile < 3 {
+        MOST_OBJECTS
+    } else {
+        MOST_DECLARED
+    }
+}
+
+/// The most functions of a scenario of this profile.
+fn most_functions(profile: u8) -> usize
+    ensures { result ≡ most_functions profile }
+{
+    if profile < 3 {
+        MOST_FUNCTIONS
+    } else {
+        MOST_DECLARED
+    }
+}
+
 /// The declarations of objects and functions.
 fn judge_declarations(alloc: Global, scenario: &Scenario) -> Result<Option<Place>, AllocError>
-    ensures { IfOk result (λ p. p ≡ first_after None (refused_names RuleReason.TooMany (past MOST_OBJECTS (named_objects scenario.now))
-        ++ refused_names RuleReason.TooMany (past MOST_FUNCTIONS (named_functions scenario.now))
+    ensures { IfOk result (λ p. p ≡ first_after None (refused_names RuleReason.TooMany (past (most_objects scenario.now.profile) (named_objects scenario.now))
+        ++ refused_names RuleReason.TooMany (past (most_functions scenario.now.profile) (named_functions scenario.now))
         ++ refused_names RuleReason.DeclaredTwice (repeated (named_objects scenario.now ++ named_functions scenario.now)))) }
 {
     let mut names = Items::new(alloc);
     let mut functions = Items::new(alloc);
     add_objects(&mut names, scenario.objects.as_slice())?;
     add_functions(&mut functions, scenario.functions.as_slice())?;
-    let past_objects = noted_past(None, MOST_OBJECTS, names.as_slice());
-    let past_functions = noted_past(past_objects, MOST_FUNCTIONS, functions.as_slice());
+    let past_objects = noted_past(None, most_objects(scenario.profile), names.as_slice());
+    let past_functions = noted_past(
+        past_objects,
+        most_functions(scenario.profile),
+        functions.as_slice(),
+    );
     names.append(functions)?;
     let sorted = sort_names(alloc, names.as_slice())?;
     Ok(noted_names(

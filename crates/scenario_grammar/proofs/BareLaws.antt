@@ -172,7 +172,7 @@ by_block b n p [] outside inside = outside
 by_block b n p (o ∷ os) outside inside = inside o os
 
 step_bare : (b : Building) (n : ℕ) (p : Phrase) → Steps b n p
-step_bare b n phrase.Profile = refl
+step_bare b n (phrase.Profile profile) = refl
 step_bare b n (phrase.Declaration name object) =
     let d : Declaration = record { line = n; name = name; object = object } in
     ap (λ x. begun b.profile x (map bare_function b.functions) (map bare_open b.open_blocks)) (map_more bare_declaration b.objects d (bare_declaration d) refl)

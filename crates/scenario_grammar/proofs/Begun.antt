@@ -16,12 +16,15 @@ use Rattle.scenario_grammar.specs.declared.phrase.Phrase.TheVariants as phrase
 use Rattle.scenario_grammar.specs.declared.building.OpenBlock.{OpenBlock}
 use Rattle.scenario_grammar.specs.declared.building.Opening.{Opening}
 use Rattle.scenario_grammar.specs.declared.building.Opening.TheVariants as opening
+use Rattle.scenario_grammar.specs.declared.token.Token.{Token}
+use Rattle.scenario_grammar.specs.Phrase.{phrase_tokens}
 use Rattle.scenario_grammar.specs.Token.{Written, ◌⊕◌, each, only_if}
 use Rattle.scenario_grammar.specs.Blocks.{TreeLine, line, mark, statement_lines, action_lines, block_within, except_lines, is_handled, profile_lines, declaration_lines, function_lines}
 use Rattle.scenario_grammar.specs.Building.{Building, at, caught, opened, added, closed_by, step}
 use Rattle.scenario_grammar.specs.Parsed.{standing, kind_of}
 use Rattle.scenario_grammar.specs.Place.{Body, Profiles, Declares, Defines, States, Opens, Parts, Catches, Finishes, Ends, misplaced, in_a_body}
 use Rattle.scenario_grammar.proofs.BlockLaws.{Said}
+use Rattle.scenario_grammar.proofs.Named.{later_profile}
 use Rattle.scenario_grammar.proofs.PhraseLaws.{role}
 use Rattle.scenario_grammar.specs.declared.reason.TextReason.{TextReason}
 use Rattle.scenario_grammar.specs.declared.reason.TextReason.TheVariants as reason
@@ -355,21 +358,21 @@ declares profile ds [] (o ∷ os) e n name object rs k h = cc
 declares profile ds (f ∷ fs) os e n name object rs k h = cc
 
 -- the line of the profile, before any other
-profiles : (profile : ℕ) (ds : List Declaration) (fs : List Function) (os : List OpenBlock) (e n : ℕ) (rs : List TreeLine)
-    → Kept e (begun profile ds fs os) rs → misplaced (standing (begun profile ds fs os)) Profiles ≡ None → Stepped (begun profile ds fs os) n phrase.Profile rs
+profiles : (profile : ℕ) (ds : List Declaration) (fs : List Function) (os : List OpenBlock) (e n named : ℕ) (ts : List Token) (rs : List TreeLine) → phrase_tokens (phrase.Profile named) ≡ Some ts
+    → Kept e (begun profile ds fs os) rs → misplaced (standing (begun profile ds fs os)) Profiles ≡ None → Stepped (begun profile ds fs os) n (phrase.Profile named) rs
 unfolding open_lines
-profiles profile [] [] [] e n rs k h = by_first (profile == 1) k.tree_lines h
+profiles profile [] [] [] e n named ts rs w k h = by_first (profile == 1) k.tree_lines h
   where
-    no_lines : (let w : Written TreeLine = Some [] in w) ≡ Some rs → (let w : Written TreeLine = Some (tree_line_of phrase.Profile ∷ []) in w) ≡ Some (rs ++ tree_line_of phrase.Profile ∷ [])
-    no_lines e = ap (λ w. w ⊕ Some (tree_line_of phrase.Profile ∷ [])) e
+    no_lines : (let w : Written TreeLine = Some [] in w) ≡ Some rs → (profile_lines named ⊕ Some [] ⊕ Some [] ⊕ Some []) ≡ Some (rs ++ tree_line_of (phrase.Profile named) ∷ [])
+    no_lines e = let other : (named == 1) ≡ false = later_profile named ts w in rw other (ap (λ w. w ⊕ Some (tree_line_of (phrase.Profile named) ∷ [])) e)
 
-    by_first : (first : Bool) → ((if first then Some [] else only_if (profile == 2) (mark phrase.Profile)) ⊕ Some [] ⊕ Some [] ⊕ Some []) ≡ Some rs
-        → (let r : Option TextReason = if not first then Some reason.LineOutOfPlace else None in r) ≡ None → Stepped (begun profile [] [] []) n phrase.Profile rs
-    by_first true tree_lines h = record { left = e; tree_line = tree_line_of phrase.Profile; said = (refl, tt); kept = record { levels = k.levels; stacked = tt; tree_lines = no_lines tree_lines } }
+    by_first : (first : Bool) → ((if first then Some [] else mark (phrase.Profile profile)) ⊕ Some [] ⊕ Some [] ⊕ Some []) ≡ Some rs
+        → (let r : Option TextReason = if not first then Some reason.LineOutOfPlace else None in r) ≡ None → Stepped (begun profile [] [] []) n (phrase.Profile named) rs
+    by_first true tree_lines h = record { left = e; tree_line = tree_line_of (phrase.Profile named); said = (refl, tt); kept = record { levels = k.levels; stacked = tt; tree_lines = no_lines tree_lines } }
     by_first false tree_lines h = cc
-profiles profile (d ∷ ds) [] [] e n rs k h = cc
-profiles profile ds [] (o ∷ os) e n rs k h = cc
-profiles profile ds (f ∷ fs) os e n rs k h = cc
+profiles profile (d ∷ ds) [] [] e n named ts rs w k h = cc
+profiles profile ds [] (o ∷ os) e n named ts rs w k h = cc
+profiles profile ds (f ∷ fs) os e n named ts rs w k h = cc
 
 defines : (profile : ℕ) (ds : List Declaration) (fs : List Function) (os : List OpenBlock) (e n : ℕ) (is_raw : Bool) (name : Name) (ps : List Name) (rs : List TreeLine)
     → Kept e (begun profile ds fs os) rs → misplaced (standing (begun profile ds fs os)) Defines ≡ None → Stepped (begun profile ds fs os) n (phrase.Function is_raw name ps) rs
@@ -483,32 +486,32 @@ ends_here profile ds fs e n m (opening.Finally tried es) ss os rs k h =
 ends_here profile ds fs e n m (opening.Timeout t silent) ss os rs k h = closes profile ds fs e n m (opening.Timeout t silent) ss os (a.Timeout t silent ss) rs (timeout_closed (suc e) m t silent ss) (λ os. refl) (λ b. cc) k
 
 -- one line more, in its place
-pub steps : (b : Building) (e n : ℕ) (p : Phrase) (rs : List TreeLine) → Kept e b rs → misplaced (standing b) (role p) ≡ None → Stepped b n p rs
-steps b e n phrase.Profile rs k h = profiles b.profile b.objects b.functions b.open_blocks e n rs k h
-steps b e n (phrase.Declaration name object) rs k h = declares b.profile b.objects b.functions b.open_blocks e n name object rs k h
-steps b e n (phrase.Function is_raw name ps) rs k h = defines b.profile b.objects b.functions b.open_blocks e n is_raw name ps rs k h
-steps b e n (phrase.Command c) rs k h = states b.profile b.objects b.functions b.open_blocks e n (phrase.Command c) (a.Command c) rs (command_lines c e n) refl k h
-steps b e n (phrase.Giving t g) rs k h = states b.profile b.objects b.functions b.open_blocks e n (phrase.Giving t g) (a.Giving t g) rs (giving_lines t g e n) refl k h
-steps b e n (phrase.If x) rs k h = opens b.profile b.objects b.functions b.open_blocks e n (phrase.If x) (opening.If x) rs (λ d. refl) refl (λ b. cc) k h
-steps b e n (phrase.While x) rs k h = opens b.profile b.objects b.functions b.open_blocks e n (phrase.While x) (opening.While x) rs (λ d. refl) refl (λ b. cc) k h
-steps b e n phrase.Try rs k h = opens b.profile b.objects b.functions b.open_blocks e n phrase.Try opening.Try rs (λ d. refl) refl (λ b. cc) k h
-steps b e n (phrase.Timeout t silent) rs k h = opens b.profile b.objects b.functions b.open_blocks e n (phrase.Timeout t silent) (opening.Timeout t silent) rs (λ d. refl) refl (λ b. cc) k h
-steps b e n phrase.Else rs k h = in_block b.open_blocks k h
+pub steps : (b : Building) (e n : ℕ) (p : Phrase) (ts : List Token) (rs : List TreeLine) → phrase_tokens p ≡ Some ts → Kept e b rs → misplaced (standing b) (role p) ≡ None → Stepped b n p rs
+steps b e n (phrase.Profile named) ts rs w k h = profiles b.profile b.objects b.functions b.open_blocks e n named ts rs w k h
+steps b e n (phrase.Declaration name object) ts rs w k h = declares b.profile b.objects b.functions b.open_blocks e n name object rs k h
+steps b e n (phrase.Function is_raw name ps) ts rs w k h = defines b.profile b.objects b.functions b.open_blocks e n is_raw name ps rs k h
+steps b e n (phrase.Command c) ts rs w k h = states b.profile b.objects b.functions b.open_blocks e n (phrase.Command c) (a.Command c) rs (command_lines c e n) refl k h
+steps b e n (phrase.Giving t g) ts rs w k h = states b.profile b.objects b.functions b.open_blocks e n (phrase.Giving t g) (a.Giving t g) rs (giving_lines t g e n) refl k h
+steps b e n (phrase.If x) ts rs w k h = opens b.profile b.objects b.functions b.open_blocks e n (phrase.If x) (opening.If x) rs (λ d. refl) refl (λ b. cc) k h
+steps b e n (phrase.While x) ts rs w k h = opens b.profile b.objects b.functions b.open_blocks e n (phrase.While x) (opening.While x) rs (λ d. refl) refl (λ b. cc) k h
+steps b e n phrase.Try ts rs w k h = opens b.profile b.objects b.functions b.open_blocks e n phrase.Try opening.Try rs (λ d. refl) refl (λ b. cc) k h
+steps b e n (phrase.Timeout t silent) ts rs w k h = opens b.profile b.objects b.functions b.open_blocks e n (phrase.Timeout t silent) (opening.Timeout t silent) rs (λ d. refl) refl (λ b. cc) k h
+steps b e n phrase.Else ts rs w k h = in_block b.open_blocks k h
   where
     in_block : (os : List OpenBlock) → Kept e (begun b.profile b.objects b.functions os) rs → misplaced (standing (begun b.profile b.objects b.functions os)) Parts ≡ None → Stepped (begun b.profile b.objects b.functions os) n phrase.Else rs
     in_block [] k h = cc
     in_block (o ∷ os) k h = parts_here b.profile b.objects b.functions e n o.line o.opening o.statements os rs k h
-steps b e n (phrase.Except c t) rs k h = in_block b.open_blocks k h
+steps b e n (phrase.Except c t) ts rs w k h = in_block b.open_blocks k h
   where
     in_block : (os : List OpenBlock) → Kept e (begun b.profile b.objects b.functions os) rs → misplaced (standing (begun b.profile b.objects b.functions os)) Catches ≡ None → Stepped (begun b.profile b.objects b.functions os) n (phrase.Except c t) rs
     in_block [] k h = cc
     in_block (o ∷ os) k h = catches_here b.profile b.objects b.functions e n o.line o.opening o.statements os c t rs k h
-steps b e n phrase.Finally rs k h = in_block b.open_blocks k h
+steps b e n phrase.Finally ts rs w k h = in_block b.open_blocks k h
   where
     in_block : (os : List OpenBlock) → Kept e (begun b.profile b.objects b.functions os) rs → misplaced (standing (begun b.profile b.objects b.functions os)) Finishes ≡ None → Stepped (begun b.profile b.objects b.functions os) n phrase.Finally rs
     in_block [] k h = cc
     in_block (o ∷ os) k h = finishes_here b.profile b.objects b.functions e n o.line o.opening o.statements os rs k h
-steps b e n phrase.End rs k h = in_block b.open_blocks k h
+steps b e n phrase.End ts rs w k h = in_block b.open_blocks k h
   where
     in_block : (os : List OpenBlock) → Kept e (begun b.profile b.objects b.functions os) rs → misplaced (standing (begun b.profile b.objects b.functions os)) Ends ≡ None → Stepped (begun b.profile b.objects b.functions os) n phrase.End rs
     in_block [] k h = cc

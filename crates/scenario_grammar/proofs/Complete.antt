@@ -13,21 +13,24 @@ use Rattle.scenario_grammar.specs.declared.building.Opening.TheVariants as openi
 use Rattle.scenario_grammar.specs.declared.place.Place.{Place}
 use Rattle.scenario_grammar.specs.Blocks.{TreeLine, line, mark, block_within, profile_lines, declaration_lines, function_lines, scenario_lines}
 use Rattle.scenario_grammar.specs.Building.{Building, added, ended, opened, step}
-use Rattle.scenario_grammar.specs.Layout.{Line, lines, is_end, is_spaced, is_ended, is_text_byte, IsText}
-use Rattle.scenario_grammar.specs.declared.limits.TheConstants.{MOST_LEVELS, MOST_TEXT}
+use Rattle.scenario_grammar.specs.Layout.{Line, lines, is_end, is_spaced, is_ended, is_text_byte, IsText, may_be_long, most_bytes}
+use Rattle.scenario_grammar.specs.declared.limits.TheConstants.{MOST_LEVELS}
 use Rattle.scenario_grammar.specs.Parsed.{nothing_yet, standing, read_words, read_line, read_lines, scenario, finished, reading}
 use Rattle.scenario_grammar.specs.Phrase.{phrase_tokens}
-use Rattle.scenario_grammar.specs.Place.{Profiles, Declares, Defines, misplaced, role_of, line_at, last_line, place_in_bytes}
-use Rattle.std.proofs.lemmas.Bool.{eqb-true, le-ltb}
+use Rattle.scenario_grammar.specs.Place.{Profiles, Declares, Defines, misplaced, role_of, line_at, last_line, place_in_bytes, too_large}
+use Rattle.std.proofs.lemmas.Bool.{eqb-false, eqb-true, le-ltb}
 use Rattle.scenario_grammar.specs.Reading.{phrase_of, ◌>>=◌}
 use Rattle.scenario_grammar.specs.Spells.{AreTreeLines, is_main, Spells}
-use Rattle.scenario_grammar.specs.Token.{◌⊕◌, each, only_if, token_in}
+use Rattle.scenario_grammar.specs.Spelt.{in_profile_3}
+use Rattle.scenario_grammar.specs.declared.token.Token.{Token}
+use Rattle.scenario_grammar.specs.Token.{Written, ◌⊕◌, each, token_in}
 use Rattle.scenario_grammar.proofs.BlockLaws.{follow, AreSaid, Makes, then_makes, line_makes, none_makes, mark_makes, makes_as, Inside, Anyway, IsEnding, block_makes, end_makes}
 use Rattle.scenario_grammar.proofs.PhraseLaws.{role, phrase_read}
 use Rattle.scenario_grammar.specs.declared.reason.TextReason.{TextReason}
 use Rattle.scenario_grammar.specs.declared.reason.TextReason.TheVariants as reason
 use Rattle.scenario_grammar.specs.Reason.{text_number}
 use Rattle.scenario_grammar.proofs.Parts.{both}
+use Rattle.scenario_grammar.proofs.Named.{IsNamed, named_profile}
 use Rattle.scenario_grammar.proofs.Profiles.{profile_said, says_later, step_grows}
 
 -- no function has begun
@@ -59,22 +62,12 @@ defines_here b h = rw h refl
 profiles_here : (b : Building) → Nothing b → misplaced (standing b) Profiles ≡ None
 profiles_here b h = rw (h.0, h.1, h.2.0, h.2.1) refl
 
--- what has no tree_lines makes anything
-no_lines : (P : Building → Type 0) (change : Building → Building) → Makes None P change
-no_lines P change rs ls b w said h = cc
-
 profile_makes : (p : ℕ) → Makes (profile_lines p) Nothing (profiled p)
 profile_makes p = by_first (p == 1) refl
   where
-    by_second : (second : Bool) → (p == 2) ≡ second → Makes (only_if second (mark phrase.Profile)) Nothing (profiled p)
-    by_second true e =
-        makes_as (mark phrase.Profile) Nothing (profiled 2) (profiled p) (mark_makes phrase.Profile Nothing (profiled 2) profiles_here (λ b n. refl))
-        (λ b h. λ i. record b { profile = sym (eqb-true p 2 e) i })
-    by_second false e = no_lines Nothing (profiled p)
-
-    by_first : (first : Bool) → (p == 1) ≡ first → Makes (if first then Some [] else only_if (p == 2) (mark phrase.Profile)) Nothing (profiled p)
+    by_first : (first : Bool) → (p == 1) ≡ first → Makes (if first then Some [] else mark (phrase.Profile p)) Nothing (profiled p)
     by_first true e = makes_as (Some []) Nothing (λ b. b) (profiled p) (none_makes Nothing) (λ b h. λ i. record b { profile = (h.0 ∙ sym (eqb-true p 1 e)) i })
-    by_first false e = by_second (p == 2) refl
+    by_first false e = mark_makes (phrase.Profile p) Nothing (profiled p) profiles_here (λ b n. refl)
 
 declarations_make : (ds : List Declaration) → Makes (each declaration_lines ds) Fresh (declared ds)
 declarations_make [] = makes_as (Some []) Fresh (λ b. b) (declared []) (none_makes Fresh) (λ b h. λ i. record b { objects = sym (append-nil b.objects) i })
@@ -185,31 +178,35 @@ lines_full profile (l ∷ ls) [] b c least h spaced e = absurd h
 lines_full profile (l ∷ ls) (r ∷ rs) b c least h spaced e =
     let s = and_first (is_spaced l) (list_all is_spaced ls) spaced in
     let n = next b c l.number r.says (numbered ls rs) e in
-    let grows = step_grows b l.number r.says n.placed in
     let says = says_later profile b.profile r.says l.words least h.0 in
+    let grows = step_grows b l.number r.says (map (token_in b.profile) l.words) says n.placed in
     lines_by (read_line b l) (step b l.number r.says) c l.number ls (line_full b l r.says s.0 says n.placed)
     (lines_full profile ls rs (step b l.number r.says) c (omega (arith, least, grows)) h.1 s.1 n.after)
 
--- the lines of a tree of profile 2, which has this line first
-later_full : (ls : List Line) (rest : List TreeLine) (c : Building) → AreTold 2 ls (record { at = None; says = phrase.Profile } ∷ rest) → list_all is_spaced ls ≡ true
-    → follow nothing_yet (numbered ls (record { at = None; says = phrase.Profile } ∷ rest)) ≡ Some c → read_lines nothing_yet ls ≡ Ok c
+-- the lines of a tree of a later profile, which has this line first
+later_full : (p : ℕ) (ls : List Line) (rest : List TreeLine) (c : Building) → AreTold p ls (record { at = None; says = phrase.Profile p } ∷ rest) → list_all is_spaced ls ≡ true
+    → follow nothing_yet (numbered ls (record { at = None; says = phrase.Profile p } ∷ rest)) ≡ Some c → read_lines nothing_yet ls ≡ Ok c
 unfolding read_lines
-later_full [] rest c h spaced e = absurd h
-later_full (l ∷ ls) rest c h spaced e =
+later_full p [] rest c h spaced e = absurd h
+later_full p (l ∷ ls) rest c h spaced e =
     let s = and_first (is_spaced l) (list_all is_spaced ls) spaced in
-    let n = next nothing_yet c l.number phrase.Profile (numbered ls rest) e in
-    let b = step nothing_yet l.number phrase.Profile in
-    lines_by (read_line nothing_yet l) b c l.number ls (line_full nothing_yet l phrase.Profile s.0 (profile_said l.words h.0) n.placed)
-    (lines_full 2 ls rest b c (omega arith) h.1 s.1 n.after)
+    let n = next nothing_yet c l.number (phrase.Profile p) (numbered ls rest) e in
+    let b = step nothing_yet l.number (phrase.Profile p) in
+    lines_by (read_line nothing_yet l) b c l.number ls (line_full nothing_yet l (phrase.Profile p) s.0 (profile_said p l.words h.0) n.placed)
+    (lines_full p ls rest b c (omega arith) h.1 s.1 n.after)
 
 -- the tree_lines behind those of the profile
-record Behind (profile : ℕ) (rs : List TreeLine) : Type 0 where
-  front : List TreeLine
-  rest : List TreeLine
-  profile_is : profile_lines profile ≡ Some front
-  whole : front ++ rest ≡ rs
+pub record Behind (s : Scenario) (rs : List TreeLine) : Type 0 where
+  pub front : List TreeLine
+  pub rest : List TreeLine
+  pub profile_is : profile_lines s.profile ≡ Some front
+  pub whole : front ++ rest ≡ rs
+  pub third : scenario_lines (in_profile_3 s) ≡ Some (record { at = None; says = phrase.Profile 3 } ∷ rest)
 
-behind : (s : Scenario) (rs : List TreeLine) → scenario_lines s ≡ Some rs → Behind s.profile rs
+third_lines : (objects functions : Written TreeLine) (xs ys : List TreeLine) → objects ≡ Some xs → functions ≡ Some ys → (mark (phrase.Profile 3) ⊕ objects ⊕ functions) ≡ Some (record { at = None; says = phrase.Profile 3 } ∷ (xs ++ ys))
+third_lines objects functions xs ys o f = rw (o, f) refl
+
+pub behind : (s : Scenario) (rs : List TreeLine) → scenario_lines s ≡ Some rs → Behind s rs
 unfolding scenario_lines
 behind s rs w =
     let outer = both (profile_lines s.profile ⊕ each declaration_lines s.objects) (each function_lines s.functions) rs w in
@@ -219,6 +216,7 @@ behind s rs w =
       rest = inner.1 ++ outer.1;
       profile_is = inner.2;
       whole = sym (append_assoc inner.0 inner.1 outer.1) ∙ ap (λ z. z ++ outer.1) inner.4 ∙ outer.4;
+      third = third_lines (each declaration_lines s.objects) (each function_lines s.functions) inner.1 outer.1 inner.3 outer.3;
     }
 
 -- all lines of a tree, of which the first may be that of the profile
@@ -226,19 +224,14 @@ pub text_full : (s : Scenario) (ls : List Line) (rs : List TreeLine) (c : Buildi
     → follow nothing_yet (numbered ls rs) ≡ Some c → read_lines nothing_yet ls ≡ Ok c
 text_full s ls rs c w h spaced e = let b = behind s rs w in by_first b.front b.rest (s.profile == 1) refl b.profile_is b.whole
   where
-    by_second : (front rest : List TreeLine) (second : Bool) → (s.profile == 2) ≡ second → only_if second (mark phrase.Profile) ≡ Some front → front ++ rest ≡ rs → read_lines nothing_yet ls ≡ Ok c
-    by_second front rest true two is whole =
-        let tree_line : TreeLine = record { at = None; says = phrase.Profile } in
-        let one : tree_line ∷ [] ≡ front = cc in
-        let all : tree_line ∷ rest ≡ rs = ap (λ z. z ++ rest) one ∙ whole in
-        later_full ls rest c (subst (λ p. AreTold p ls (tree_line ∷ rest)) (eqb-true s.profile 2 two) (subst (λ z. AreTold s.profile ls z) (sym all) h)) spaced
-        (subst (λ z. follow nothing_yet (numbered ls z) ≡ Some c) (sym all) e)
-    by_second front rest false two is whole = cc
-
-    by_first : (front rest : List TreeLine) (first : Bool) → (s.profile == 1) ≡ first → (if first then Some [] else only_if (s.profile == 2) (mark phrase.Profile)) ≡ Some front → front ++ rest ≡ rs
+    by_first : (front rest : List TreeLine) (first : Bool) → (s.profile == 1) ≡ first → (if first then Some [] else mark (phrase.Profile s.profile)) ≡ Some front → front ++ rest ≡ rs
         → read_lines nothing_yet ls ≡ Ok c
     by_first front rest true one is whole = let first = eqb-true s.profile 1 one in lines_full s.profile ls rs nothing_yet c (omega (arith, first)) h spaced e
-    by_first front rest false one is whole = by_second front rest (s.profile == 2) refl is whole
+    by_first front rest false one is whole =
+        let tree_line : TreeLine = record { at = None; says = phrase.Profile s.profile } in
+        let named : tree_line ∷ [] ≡ front = cc in
+        let all : tree_line ∷ rest ≡ rs = ap (λ z. z ++ rest) named ∙ whole in
+        later_full s.profile ls rest c (subst (λ z. AreTold s.profile ls z) (sym all) h) spaced (subst (λ z. follow nothing_yet (numbered ls z) ≡ Some c) (sym all) e)
 
 byte_by : (t : Bool) (i : ℕ) (x : Option ℕ) → t ≡ true → cond (not t) (Some i) x ≡ x
 byte_by true i x e = refl
@@ -260,9 +253,9 @@ bytes_by false None false p q f a b c = cc
 
 pub none_in_bytes : (bytes : List ℕ) → IsText bytes → place_in_bytes bytes ≡ None
 none_in_bytes bytes t =
-    bytes_by (nat_lt MOST_TEXT (length bytes)) (position (λ b. not (is_text_byte b)) bytes) (is_ended bytes)
-    (record { line = line_at MOST_TEXT bytes; reason = 1 }) (record { line = count_by is_end bytes + 1; reason = 3 }) (λ i. record { line = line_at i bytes; reason = 2 })
-    (le-ltb MOST_TEXT (length bytes) t.short) (position_from-zero (λ b. not (is_text_byte b)) bytes ∙ none_from 0 bytes t.printable) t.ended
+    bytes_by (nat_lt (most_bytes bytes) (length bytes)) (position (λ b. not (is_text_byte b)) bytes) (is_ended bytes)
+    (record { line = line_at (most_bytes bytes) bytes; reason = text_number (too_large (may_be_long bytes)) }) (record { line = count_by is_end bytes + 1; reason = 3 }) (λ i. record { line = line_at i bytes; reason = 2 })
+    (le-ltb (most_bytes bytes) (length bytes) t.short) (position_from-zero (λ b. not (is_text_byte b)) bytes ∙ none_from 0 bytes t.printable) t.ended
 
 ended_by : (m : Bool) (p : Place) (x : Scenario) → m ≡ true → (let r : Result Scenario Place = elim (if m || false then None else Some p) [ Some p ↦ Err p | None ↦ Ok x ] in r) ≡ Ok x
 ended_by true p x e = refl
@@ -289,18 +282,27 @@ complete s bytes h = by_lines (scenario_lines s) refl h.tree_lines
         (scenario_makes s rs (numbered (lines bytes) rs) e (numbered_said s.profile (lines bytes) rs a)))
         h.has_main
 
--- A tree that has a text is of one of the two profiles.
-pub has_profile : (s : Scenario) (bytes : List ℕ) → Spells s bytes → (s.profile ≡ 1) ⊎ (s.profile ≡ 2)
+-- A tree that has a text is of a profile that there is.
+pub has_profile : (s : Scenario) (bytes : List ℕ) → Spells s bytes → (s.profile ≡ 1) ⊎ ((s.profile ≡ 2) ⊎ (s.profile ≡ 3))
 has_profile s bytes h = by_lines (scenario_lines s) refl h.tree_lines
   where
-    by_second : (second : Bool) (front : List TreeLine) → (s.profile == 2) ≡ second → only_if second (mark phrase.Profile) ≡ Some front → (s.profile ≡ 1) ⊎ (s.profile ≡ 2)
-    by_second true front two is = inr (eqb-true s.profile 2 two)
-    by_second false front two is = cc
+    by_named : (second : Bool) (ts : List Token) → (s.profile == 2) ≡ second → IsNamed s.profile ts → (s.profile ≡ 1) ⊎ ((s.profile ≡ 2) ⊎ (s.profile ≡ 3))
+    by_named true ts two n = inr (inl (eqb-true s.profile 2 two))
+    by_named false ts two n = let other = eqb-false s.profile 2 two in let least = n.least in let most = n.most in inr (inr (omega (arith, other, least, most)))
 
-    by_first : (first : Bool) (front : List TreeLine) → (s.profile == 1) ≡ first → (if first then Some [] else only_if (s.profile == 2) (mark phrase.Profile)) ≡ Some front → (s.profile ≡ 1) ⊎ (s.profile ≡ 2)
-    by_first true front one is = inl (eqb-true s.profile 1 one)
-    by_first false front one is = by_second (s.profile == 2) front refl is
+    by_front : (ls : List Line) (rest : List TreeLine) → AreTreeLines s.profile ls (record { at = None; says = phrase.Profile s.profile } ∷ rest) → (s.profile ≡ 1) ⊎ ((s.profile ≡ 2) ⊎ (s.profile ≡ 3))
+    by_front [] rest a = absurd a
+    by_front (l ∷ ls) rest a = by_named (s.profile == 2) (map (token_in s.profile) l.words) refl (named_profile s.profile (map (token_in s.profile) l.words) a.0.0)
 
-    by_lines : (r : Option (List TreeLine)) → scenario_lines s ≡ r → IsSomeAnd r (AreTreeLines s.profile (lines bytes)) → (s.profile ≡ 1) ⊎ (s.profile ≡ 2)
+    by_first : (first : Bool) (front rest rs : List TreeLine) → (s.profile == 1) ≡ first → (if first then Some [] else mark (phrase.Profile s.profile)) ≡ Some front → front ++ rest ≡ rs
+        → AreTreeLines s.profile (lines bytes) rs → (s.profile ≡ 1) ⊎ ((s.profile ≡ 2) ⊎ (s.profile ≡ 3))
+    by_first true front rest rs one is whole a = inl (eqb-true s.profile 1 one)
+    by_first false front rest rs one is whole a =
+        let tree_line : TreeLine = record { at = None; says = phrase.Profile s.profile } in
+        let named : tree_line ∷ [] ≡ front = cc in
+        let all : tree_line ∷ rest ≡ rs = ap (λ z. z ++ rest) named ∙ whole in
+        by_front (lines bytes) rest (subst (λ z. AreTreeLines s.profile (lines bytes) z) (sym all) a)
+
+    by_lines : (r : Option (List TreeLine)) → scenario_lines s ≡ r → IsSomeAnd r (AreTreeLines s.profile (lines bytes)) → (s.profile ≡ 1) ⊎ ((s.profile ≡ 2) ⊎ (s.profile ≡ 3))
     by_lines None e a = absurd a
-    by_lines (Some rs) e a = let b = behind s rs e in by_first (s.profile == 1) b.front refl b.profile_is
+    by_lines (Some rs) e a = let b = behind s rs e in by_first (s.profile == 1) b.front b.rest rs refl b.profile_is b.whole a

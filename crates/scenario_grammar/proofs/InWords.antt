@@ -239,7 +239,7 @@ a_target n = plus (a_name n) (word k.Arrow)
 
 a_phrase : (p : Phrase) → InWords (phrase_tokens p)
 unfolding phrase_tokens
-a_phrase phrase.Profile = after k.Profile (a_number 2 2 2)
+a_phrase (phrase.Profile n) = after k.Profile (a_number 2 3 n)
 a_phrase (phrase.Declaration n o) = an_object o n
 a_phrase (phrase.Function is_raw n ps) = a_head is_raw n ps
 a_phrase (phrase.Command c) = a_command c

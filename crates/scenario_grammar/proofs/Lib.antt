@@ -6,6 +6,8 @@ pub mod Complete
 mod ExpressionLaws
 mod InWords
 mod Lines
+pub mod LongForms
+mod Named
 mod Parts
 mod PhraseLaws
 pub mod Placed

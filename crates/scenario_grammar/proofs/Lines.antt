@@ -23,7 +23,7 @@ use Rattle.scenario_grammar.specs.Phrase.{phrase_tokens, giving_tokens, timeout_
 use Rattle.scenario_grammar.specs.Reading.{Reading, ◌<$>◌, pure, name_at, number_at, expression_at, nested_at, all_at, raw_link_at, gives, giving_by, phrase_by}
 use Rattle.scenario_grammar.specs.Place.{role_by, States}
 use Rattle.scenario_grammar.proofs.Parts.{AreProper, Anything, both, bind_ok, map_sound, map_full, pure_sound}
-use Rattle.scenario_grammar.proofs.Words.{Faithful, made, joined, next, ending, Ends, inner, names, numbers, times, expressions, timed_parts, takes_parts, under_parts, with_parts, with_at_the_end, count_parts, wait_parts, before_wait, before_time, before_now, now_parts, silent_parts, immediate_parts, one_number, after_tokens, after_parts, size_parts, jobs, queues, classes, binding_parts, all_parts}
+use Rattle.scenario_grammar.proofs.Words.{Faithful, made, joined, next, ending, Ends, inner, names, numbers, times, expressions, timed_parts, takes_parts, under_parts, with_parts, with_at_the_end, count_parts, wait_parts, before_wait, before_time, before_now, now_parts, silent_parts, immediate_parts, after_tokens, after_parts, size_parts, jobs, queues, classes, binding_parts, all_parts}
 use Rattle.scenario_grammar.specs.declared.reason.TextReason.TheVariants as reason
 use Rattle.scenario_grammar.specs.declared.limits.TheConstants.{MOST_MARK, MOST_POOL_PLACES, MOST_SLOTS, MOST_UNITS}
 
@@ -91,9 +91,9 @@ pub channel_line : Line {E = Name} k.Channel (λ p. phrase.Declaration p object.
 unfolding phrase_tokens
 channel_line = record { same = λ p. refl; reads = ending (made (λ n. phrase.Declaration n object.Channel) names) }
 
-pub profile_line : Line {E = Unit {0}} k.Profile (λ _. phrase.Profile) (λ _. number 2 2 2)
+pub profile_line : Line {E = ℕ} k.Profile (λ n. phrase.Profile n) (λ n. number 2 3 n)
 unfolding phrase_tokens
-profile_line = record { same = λ p. refl; reads = ending (one_number 2 phrase.Profile) }
+profile_line = record { same = λ p. refl; reads = ending (made (λ n. phrase.Profile n) (numbers 2 3)) }
 
 pub function_line : Line {E = Name × List Name} k.Function (λ p. phrase.Function false p.0 p.1) (λ p. name p.0 ⊕ each name p.1)
 unfolding phrase_tokens

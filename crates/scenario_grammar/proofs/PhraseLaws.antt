@@ -28,7 +28,7 @@ use Rattle.scenario_grammar.specs.declared.reason.TextReason.{TextReason}
 
 -- the part that a phrase has among the blocks
 abbrev pub role : Phrase → Role
-role phrase.Profile = Profiles
+role (phrase.Profile n) = Profiles
 role (phrase.Declaration n o) = Declares
 role (phrase.Function is_raw n parameters) = Defines
 role (phrase.Command c) = States
@@ -219,7 +219,7 @@ unmarked (phrase.Declaration n object.Group) ts h w = line_read l.group_line n t
 unmarked (phrase.Declaration n (object.Pool x)) ts h w = line_read l.pool_line (n, x) ts refl w
 unmarked (phrase.Declaration n (object.Native x)) ts h w = line_read l.native_line (n, x) ts refl w
 unmarked (phrase.Declaration n object.Channel) ts h w = line_read l.channel_line n ts refl w
-unmarked phrase.Profile ts h w = line_read l.profile_line tt ts refl w
+unmarked (phrase.Profile n) ts h w = line_read l.profile_line n ts refl w
 unmarked (phrase.Function false n ps) ts h w = line_read l.function_line (n, ps) ts refl w
 unmarked (phrase.Function true n []) ts h w = cc
 unmarked (phrase.Function true n (p ∷ [])) ts h w = line_read l.raw_function_line (n, p) ts refl w

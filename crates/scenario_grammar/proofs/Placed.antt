@@ -16,11 +16,13 @@ use Rattle.scenario_grammar.specs.Blocks.{TreeLine}
 use Rattle.scenario_grammar.specs.Building.{Building, step}
 use Rattle.scenario_grammar.specs.Layout.{Line, lines, is_spaced}
 use Rattle.scenario_grammar.specs.Parsed.{nothing_yet, is_begun, has_objects, standing, read_words, read_line, read_lines, scenario, finished, reading, opens_main}
+use Rattle.scenario_grammar.specs.Phrase.{phrase_tokens}
 use Rattle.scenario_grammar.specs.Place.{Body, Standing, at_the_start, after, misplaced, role_of, judge, judge_line, judge_lines, at_the_end, last_line, place_in_bytes, place_in_lines, place}
 use Rattle.scenario_grammar.specs.Reading.{phrase_of, ◌>>=◌}
 use Rattle.scenario_grammar.specs.Spells.{is_main}
 use Rattle.scenario_grammar.specs.Token.{token_in}
 use Rattle.scenario_grammar.proofs.Begun.{begun, Kept, Stacked, steps}
+use Rattle.scenario_grammar.proofs.Named.{later_profile}
 use Rattle.scenario_grammar.proofs.PhraseLaws.{role, phrase_read, phrase_said, tokens_proper}
 use Rattle.scenario_grammar.proofs.Sound.{line_read, nothing_kept}
 use Rattle.scenario_grammar.specs.declared.reason.TextReason.{TextReason}
@@ -131,20 +133,23 @@ declared_line true d ds y = refl
 declared_line false d [] y = refl
 declared_line false d (e ∷ es) y = refl
 
-follows : (b : Building) (n : ℕ) (p : Phrase) → Stacked b.open_blocks → misplaced (standing b) (role p) ≡ None → Follows b n p
-follows b n phrase.Profile k h = λ i. record (standing b) { profile = 2; any_line = sym (or_true (is_begun b || has_objects b)) i }
-follows b n (phrase.Declaration name object) k h = λ i. record (standing b) { any_line = sym (declared_line (is_begun b) (record { line = n; name = name; object = object }) b.objects (not (b.profile == 1))) i }
-follows b n (phrase.Function is_raw name ps) k h = defines_follow b.profile b.objects b.functions b.open_blocks n is_raw name ps h
-follows b n (phrase.Command c) k h = in_a_block b n (phrase.Command c) b.open_blocks refl (λ e. cc) (λ o os k h. refl) k h
-follows b n (phrase.Giving t g) k h = in_a_block b n (phrase.Giving t g) b.open_blocks refl (λ e. cc) (λ o os k h. refl) k h
-follows b n (phrase.If x) k h = in_a_block b n (phrase.If x) b.open_blocks refl (λ e. cc) (λ o os k h. refl) k h
-follows b n (phrase.While x) k h = in_a_block b n (phrase.While x) b.open_blocks refl (λ e. cc) (λ o os k h. refl) k h
-follows b n phrase.Try k h = in_a_block b n phrase.Try b.open_blocks refl (λ e. cc) (λ o os k h. refl) k h
-follows b n (phrase.Timeout t s) k h = in_a_block b n (phrase.Timeout t s) b.open_blocks refl (λ e. cc) (λ o os k h. refl) k h
-follows b n phrase.Else k h = in_a_block b n phrase.Else b.open_blocks refl (λ e. cc) (λ o os k h. else_follows b.profile b.objects b.functions n o.line o.opening o.statements os h) k h
-follows b n (phrase.Except c t) k h = in_a_block b n (phrase.Except c t) b.open_blocks refl (λ e. cc) (λ o os k h. except_follows b.profile b.objects b.functions n o.line o.opening o.statements os c t h) k h
-follows b n phrase.Finally k h = in_a_block b n phrase.Finally b.open_blocks refl (λ e. cc) (λ o os k h. finally_follows b.profile b.objects b.functions n o.line o.opening o.statements os h) k h
-follows b n phrase.End k h = in_a_block b n phrase.End b.open_blocks refl (λ e. cc) (λ o os k h. ends_follow b.profile b.objects b.functions n o.line o.opening o.statements os k h) k h
+follows : (b : Building) (n : ℕ) (p : Phrase) (ts : List Token) → phrase_tokens p ≡ Some ts → Stacked b.open_blocks → misplaced (standing b) (role p) ≡ None → Follows b n p
+follows b n (phrase.Profile profile) ts w k h =
+    let other : (profile == 1) ≡ false = later_profile profile ts w in
+    let some : (is_begun b || has_objects b || not (profile == 1)) ≡ true = rw other (or_true (is_begun b || has_objects b)) in
+    λ i. record (standing b) { profile = profile; any_line = sym some i }
+follows b n (phrase.Declaration name object) ts w k h = λ i. record (standing b) { any_line = sym (declared_line (is_begun b) (record { line = n; name = name; object = object }) b.objects (not (b.profile == 1))) i }
+follows b n (phrase.Function is_raw name ps) ts w k h = defines_follow b.profile b.objects b.functions b.open_blocks n is_raw name ps h
+follows b n (phrase.Command c) ts w k h = in_a_block b n (phrase.Command c) b.open_blocks refl (λ e. cc) (λ o os k h. refl) k h
+follows b n (phrase.Giving t g) ts w k h = in_a_block b n (phrase.Giving t g) b.open_blocks refl (λ e. cc) (λ o os k h. refl) k h
+follows b n (phrase.If x) ts w k h = in_a_block b n (phrase.If x) b.open_blocks refl (λ e. cc) (λ o os k h. refl) k h
+follows b n (phrase.While x) ts w k h = in_a_block b n (phrase.While x) b.open_blocks refl (λ e. cc) (λ o os k h. refl) k h
+follows b n phrase.Try ts w k h = in_a_block b n phrase.Try b.open_blocks refl (λ e. cc) (λ o os k h. refl) k h
+follows b n (phrase.Timeout t s) ts w k h = in_a_block b n (phrase.Timeout t s) b.open_blocks refl (λ e. cc) (λ o os k h. refl) k h
+follows b n phrase.Else ts w k h = in_a_block b n phrase.Else b.open_blocks refl (λ e. cc) (λ o os k h. else_follows b.profile b.objects b.functions n o.line o.opening o.statements os h) k h
+follows b n (phrase.Except c t) ts w k h = in_a_block b n (phrase.Except c t) b.open_blocks refl (λ e. cc) (λ o os k h. except_follows b.profile b.objects b.functions n o.line o.opening o.statements os c t h) k h
+follows b n phrase.Finally ts w k h = in_a_block b n phrase.Finally b.open_blocks refl (λ e. cc) (λ o os k h. finally_follows b.profile b.objects b.functions n o.line o.opening o.statements os h) k h
+follows b n phrase.End ts w k h = in_a_block b n phrase.End b.open_blocks refl (λ e. cc) (λ o os k h. ends_follow b.profile b.objects b.functions n o.line o.opening o.statements os k h) k h
 
 -- where a reading ends, as a standing
 abbrev stands : {E : Type 0} → Result Building E → Result Standing E
@@ -165,8 +170,9 @@ judged b l k = by_space (is_spaced l)
 
     follow : (p : Phrase) → misplaced (standing b) (role_of (map (token_in b.profile) l.words)) ≡ None → phrase_of (map (token_in b.profile) l.words) ≡ Ok p → Follows b l.number p
     follow p placed read =
-        let r = phrase_read p (map (token_in b.profile) l.words) (phrase_said (map (token_in b.profile) l.words) p (tokens_proper b.profile l.words) read) in
-        follows b l.number p k (sym (r.place (standing b)) ∙ placed)
+        let says = phrase_said (map (token_in b.profile) l.words) p (tokens_proper b.profile l.words) read in
+        let r = phrase_read p (map (token_in b.profile) l.words) says in
+        follows b l.number p (map (token_in b.profile) l.words) says k (sym (r.place (standing b)) ∙ placed)
 
     by_space : (s : Bool) → (let r : Result Standing TextReason = if s then judge (standing b) (map (token_in b.profile) l.words) else Err reason.BlankOutOfPlace in r) ≡ stands (let r : Result Building TextReason = if s then read_words b l.number (map (token_in b.profile) l.words) else Err reason.BlankOutOfPlace in r)
     by_space true = judged_by (misplaced (standing b) (role_of (map (token_in b.profile) l.words))) (phrase_of (map (token_in b.profile) l.words)) b l.number follow
@@ -184,7 +190,7 @@ lines_judged [] b e rs k = refl
 lines_judged (l ∷ ls) b e rs k =
     lines_by (judge_line (standing b) l) (read_line b l) l.number ls (judged b l k.stacked)
     (λ c r. let one = line_read b c l r in
-    let s = steps b e l.number one.phrase rs k one.placed in
+    let s = steps b e l.number one.phrase (map (token_in b.profile) l.words) rs one.says k one.placed in
     lines_judged ls c s.left (rs ++ s.tree_line ∷ []) (subst (λ d. Kept s.left d (rs ++ s.tree_line ∷ [])) (sym one.made) s.kept))
 
 -- where a reading is refused

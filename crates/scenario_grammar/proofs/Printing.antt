@@ -1,28 +1,32 @@
 -- The printed form of a tree that has a text is a text of it, but for the numbers of its lines.
-use Rattle.std.proofs.Common.{◌≡◌, ℕ, zero, suc, ◌+◌, ◌*◌, ◌≤◌, Bool, true, false, ◌&&◌, not, cond, if◌then◌else◌, List, [], ◌∷◌, ◌++◌, length, map, replicate, Option, Some, None, Ok, refl, sym, ap, ◌∙◌}
+use Rattle.std.proofs.Common.{◌≡◌, ℕ, zero, suc, ◌+◌, ◌*◌, ◌≤◌, Bool, true, false, ◌&&◌, not, cond, if◌then◌else◌, List, [], ◌∷◌, ◌++◌, length, map, replicate, Option, Some, None, Ok, codes, refl, sym, ap, subst, ◌∙◌, ◌⊎◌, inl, inr, arith}
 use Rattle.std.specs.Prelude.{◌==◌}
 use Rattle.std.specs.List.{list_all, list_any, slice_split, onto_first, join_with_byte}
 use Rattle.std.specs.Option.{IsSomeAnd}
 use Rattle.std.proofs.lemmas.List.Splits.{join_with_byte-slice_split}
 use Rattle.scenario_tree.specs.declared.tree.Scenario.{Scenario}
 use Rattle.scenario_grammar.specs.declared.phrase.Phrase.{Phrase}
+use Rattle.scenario_grammar.specs.declared.phrase.Phrase.TheVariants as phrase
 use Rattle.scenario_grammar.specs.Bare.{bare}
-use Rattle.scenario_grammar.specs.Blocks.{TreeLine, scenario_lines}
-use Rattle.scenario_grammar.specs.Layout.{Line, lines, lines_from, with_line, drop_blanks, is_blank, is_end, is_spaced, is_ended, is_text_byte, IsText}
-use Rattle.scenario_grammar.specs.declared.limits.TheConstants.{MOST_TEXT}
+use Rattle.scenario_grammar.specs.Blocks.{TreeLine, mark, profile_lines, scenario_lines}
+use Rattle.scenario_grammar.specs.declared.limits.TheConstants.{MOST_LONG_TEXT}
+use Rattle.scenario_grammar.specs.Layout.{Line, lines, lines_from, with_line, drop_blanks, is_blank, is_end, is_spaced, is_ended, is_text_byte, IsText, most_bytes, most_of_profile}
 use Rattle.scenario_grammar.specs.Parsed.{nothing_yet, reading, read_lines, scenario}
 use Rattle.scenario_grammar.specs.Phrase.{phrase_tokens}
 use Rattle.scenario_grammar.specs.Place.{place_in_bytes}
 use Rattle.scenario_grammar.specs.Printed.{is_closing, is_opening, less_if, more_if, words_of, printed_tree_lines, printed_if, printed}
-use Rattle.scenario_grammar.specs.Spells.{AreTreeLines, is_main, Spells}
-use Rattle.scenario_grammar.specs.Token.{token_in, token_word}
+use Rattle.scenario_grammar.specs.Spells.{AreTreeLines, IsTreeLine, is_main, Spells}
+use Rattle.scenario_grammar.specs.Spelt.{in_profile_3}
+use Rattle.scenario_grammar.specs.Keyword.{keyword_of, keywords}
+use Rattle.scenario_grammar.specs.Token.{token_in, token_of, token_word}
 use Rattle.scenario_grammar.proofs.Atoms.{and_left, and_right}
 use Rattle.scenario_grammar.proofs.BareLaws.{SamePhrases, renumbered, functions_bare}
-use Rattle.scenario_grammar.proofs.Complete.{built, numbered, numbered_said, AreTold, told, scenario_makes, text_full, none_in_bytes, reading_by}
+use Rattle.scenario_grammar.proofs.Complete.{behind, built, has_profile, numbered, numbered_said, AreTold, told, scenario_makes, text_full, none_in_bytes, reading_by}
 use Rattle.scenario_grammar.proofs.InWords.{is_word, phrase_in_words}
+use Rattle.scenario_grammar.proofs.LongForms.{within_form, within_short}
 use Rattle.scenario_grammar.proofs.Sound.{sound}
 use Rattle.scenario_grammar.proofs.WordsBack.{words_back}
-use Rattle.scenario_grammar.proofs.Profiles.{words_known}
+use Rattle.scenario_grammar.proofs.Profiles.{says_later, words_known}
 
 -- a byte that may stand in a line
 abbrev is_plain : ℕ → Bool
@@ -249,11 +253,11 @@ reading_so : (bytes : List ℕ) (t : Scenario) → IsText bytes → read_lines n
 unfolding reading
 reading_so bytes t whole read main = reading_by (place_in_bytes bytes) (read_lines nothing_yet (lines bytes)) bytes t (none_in_bytes bytes whole) read main
 
-printed_again : (s : Scenario) (bytes : List ℕ) (rs : List TreeLine) → Spells s bytes → scenario_lines s ≡ Some rs → AreTreeLines s.profile (lines bytes) rs → length (printed s) ≤ MOST_TEXT → PrintedAgain s
+-- the printed form of a tree, by lines that say what the tree says
+lines_again : (s : Scenario) (ls : List Line) (rs : List TreeLine) → AllCarry ls → list_all is_spaced ls ≡ true → scenario_lines s ≡ Some rs → AreTreeLines s.profile ls rs → list_any is_main s.functions ≡ true
+    → length (printed s) ≤ most_bytes (printed s) → PrintedAgain s
 unfolding printed lines
-printed_again s bytes rs h tree_lines said short =
-    let ls = lines bytes in
-    let carry = lines_carry 1 (slice_split is_end bytes) (split_plain bytes h.text.printable) in
+lines_again s ls rs carry spaced tree_lines said has_main short =
     let says = told s.profile ls rs said in
     let form : printed s ≡ printed_tree_lines 0 rs = ap printed_if tree_lines in
     let new_lines : lines (printed s) ≡ relined 1 ls = ap (λ z. lines_from 1 (slice_split is_end z)) form ∙ printed_lines s.profile ls rs 0 1 carry says in
@@ -261,7 +265,7 @@ printed_again s bytes rs h tree_lines said short =
       short = short;
       printable = ap (list_all is_text_byte) form ∙ printed_printable s.profile ls rs 0 carry says;
       ended = ap is_ended form ∙ printed_ended 0 rs;
-      spaced = ap (list_all is_spaced) new_lines ∙ relined_spaced 1 ls ∙ h.text.spaced;
+      spaced = ap (list_all is_spaced) new_lines ∙ relined_spaced 1 ls ∙ spaced;
     } in
     let made = scenario_makes s rs (numbered ls rs) tree_lines (numbered_said s.profile ls rs said) in
     let again = renumbered (numbered ls rs) (numbered (relined 1 ls) rs) nothing_yet nothing_yet (built s) (relined_same 1 ls rs) refl made in
@@ -269,10 +273,10 @@ printed_again s bytes rs h tree_lines said short =
     let closed = none_open _ again.made.open_blocks (ap (λ b. b.open_blocks) again.same) in
     let whole_made : again.made ≡ built tree = λ i. record again.made { open_blocks = closed i } in
     let functions = ap (λ b. b.functions) again.same in
-    let main = sym (functions_bare tree.functions) ∙ ap (list_any is_main) (sym functions) ∙ functions_bare s.functions ∙ h.has_main in
+    let main = sym (functions_bare tree.functions) ∙ ap (list_any is_main) (sym functions) ∙ functions_bare s.functions ∙ has_main in
     let read : read_lines nothing_yet (lines (printed s)) ≡ Ok (built tree) =
     ap (read_lines nothing_yet) new_lines
-    ∙ text_full s (relined 1 ls) rs again.made tree_lines (relined_told s.profile 1 ls rs says) (relined_spaced 1 ls ∙ h.text.spaced) again.follows
+    ∙ text_full s (relined 1 ls) rs again.made tree_lines (relined_told s.profile 1 ls rs says) (relined_spaced 1 ls ∙ spaced) again.follows
     ∙ ap (λ b. Ok b) whole_made in
     record {
       tree = tree;
@@ -280,11 +284,113 @@ printed_again s bytes rs h tree_lines said short =
       same = λ i. record { profile = (again.same i).profile; objects = (again.same i).objects; functions = functions i };
     }
 
+carry_lines : (bytes : List ℕ) → list_all is_text_byte bytes ≡ true → AllCarry (lines bytes)
+unfolding lines
+carry_lines bytes printable = lines_carry 1 (slice_split is_end bytes) (split_plain bytes printable)
+
+printed_again : (s : Scenario) (bytes : List ℕ) (rs : List TreeLine) → Spells s bytes → scenario_lines s ≡ Some rs → AreTreeLines s.profile (lines bytes) rs → length (printed s) ≤ most_bytes (printed s) → PrintedAgain s
+printed_again s bytes rs h tree_lines said short = lines_again s (lines bytes) rs (carry_lines bytes h.text.printable) h.text.spaced tree_lines said h.has_main short
+
+-- the printed form is no longer than its own beginning lets it be
+within : (s : Scenario) (bytes : List ℕ) (rs : List TreeLine) → Spells s bytes → scenario_lines s ≡ Some rs → length (printed s) ≤ most_of_profile s.profile → length (printed s) ≤ most_bytes (printed s)
+unfolding printed
+within s bytes rs h tree_lines short = by_profile (has_profile s bytes h)
+  where
+    first : s.profile ≡ 1 → length (printed s) ≤ most_bytes (printed s)
+    first one = within_short (printed s) (subst (λ p. length (printed s) ≤ most_of_profile p) one short)
+
+    second : s.profile ≡ 2 → length (printed s) ≤ most_bytes (printed s)
+    second two = within_short (printed s) (subst (λ p. length (printed s) ≤ most_of_profile p) two short)
+
+    third : s.profile ≡ 3 → length (printed s) ≤ most_bytes (printed s)
+    third three =
+        let b = behind s rs tree_lines in
+        let tree_line : TreeLine = record { at = None; says = phrase.Profile 3 } in
+        let front : profile_lines 3 ≡ Some b.front = subst (λ p. profile_lines p ≡ Some b.front) three b.profile_is in
+        let named : tree_line ∷ [] ≡ b.front = cc in
+        let all : rs ≡ tree_line ∷ b.rest = sym (ap (λ z. z ++ b.rest) named ∙ b.whole) in
+        within_form (printed s) b.rest (ap printed_if (tree_lines ∙ ap (λ z. let w : Option (List TreeLine) = Some z in w) all)) (subst (λ p. length (printed s) ≤ most_of_profile p) three short)
+
+    by_profile : (s.profile ≡ 1) ⊎ ((s.profile ≡ 2) ⊎ (s.profile ≡ 3)) → length (printed s) ≤ most_bytes (printed s)
+    by_profile (inl one) = first one
+    by_profile (inr (inl two)) = second two
+    by_profile (inr (inr three)) = third three
+
 -- The printed form of a tree that has a text, where it is no longer than a text may be, is a text of the tree but for
 -- its lines.
-pub printing : (s : Scenario) (bytes : List ℕ) → Spells s bytes → length (printed s) ≤ MOST_TEXT → (t : Scenario) × Spells t (printed s) × (bare s ≡ bare t)
+pub printing : (s : Scenario) (bytes : List ℕ) → Spells s bytes → length (printed s) ≤ most_of_profile s.profile → (t : Scenario) × Spells t (printed s) × (bare s ≡ bare t)
 printing s bytes h short = by_lines (scenario_lines s) refl h.tree_lines
   where
     by_lines : (r : Option (List TreeLine)) → scenario_lines s ≡ r → IsSomeAnd r (AreTreeLines s.profile (lines bytes)) → (t : Scenario) × Spells t (printed s) × (bare s ≡ bare t)
     by_lines None e a = absurd a
-    by_lines (Some rs) e a = let again = printed_again s bytes rs h e a short in (again.tree, again.spelt, again.same)
+    by_lines (Some rs) e a = let again = printed_again s bytes rs h e a (within s bytes rs h e short) in (again.tree, again.spelt, again.same)
+
+-- the line `profile 3`
+abbrev third_line : Line
+third_line = record { number = 1; words = codes "profile" ∷ codes "3" ∷ [] }
+
+abbrev third_tree_line : TreeLine
+third_tree_line = record { at = None; says = phrase.Profile 3 }
+
+third_said : IsTreeLine 3 third_line third_tree_line
+unfolding phrase_tokens token_of keyword_of keywords
+third_said = (refl, tt)
+
+third_carries : Carries third_line
+third_carries = record { first = 112; others = codes "rofile 3"; words = refl; solid = refl; no_comment = refl; plain = refl }
+
+later_tree_lines : (p q : ℕ) (ls : List Line) (rs : List TreeLine) → p ≤ q → AreTreeLines p ls rs → AreTreeLines q ls rs
+later_tree_lines p q [] [] l a = tt
+later_tree_lines p q [] (r ∷ rs) l a = absurd a
+later_tree_lines p q (x ∷ xs) [] l a = absurd a
+later_tree_lines p q (x ∷ xs) (r ∷ rs) l a = ((says_later p q r.says x.words l a.0.0, a.0.1), later_tree_lines p q xs rs l a.1)
+
+third_again : (s : Scenario) (ls : List Line) (rest : List TreeLine) → AllCarry ls → list_all is_spaced ls ≡ true → scenario_lines (in_profile_3 s) ≡ Some (third_tree_line ∷ rest) → AreTreeLines 3 ls rest
+    → list_any is_main s.functions ≡ true → length (printed (in_profile_3 s)) ≤ MOST_LONG_TEXT → PrintedAgain (in_profile_3 s)
+unfolding printed
+third_again s ls rest carry spaced e said main short =
+    lines_again (in_profile_3 s) (third_line ∷ ls) (third_tree_line ∷ rest) (third_carries, carry) spaced e (third_said, said) main (within_form (printed (in_profile_3 s)) rest (ap printed_if e) short)
+
+least_profile : (s : Scenario) (bytes : List ℕ) → Spells s bytes → s.profile ≤ 3
+least_profile s bytes h = by (has_profile s bytes h)
+  where
+    by : (s.profile ≡ 1) ⊎ ((s.profile ≡ 2) ⊎ (s.profile ≡ 3)) → s.profile ≤ 3
+    by (inl one) = omega (arith, one)
+    by (inr (inl two)) = omega (arith, two)
+    by (inr (inr three)) = omega (arith, three)
+
+third_printed : (s : Scenario) (bytes : List ℕ) (rs : List TreeLine) → Spells s bytes → scenario_lines s ≡ Some rs → AreTreeLines s.profile (lines bytes) rs → length (printed (in_profile_3 s)) ≤ MOST_LONG_TEXT
+    → PrintedAgain (in_profile_3 s)
+third_printed s bytes rs h tree_lines said short = let b = behind s rs tree_lines in by_first b.front b.rest (s.profile == 1) refl b.profile_is b.whole b.third
+  where
+    least : s.profile ≤ 3
+    least = least_profile s bytes h
+
+    by_lines : (ls : List Line) (rest : List TreeLine) → AllCarry ls → list_all is_spaced ls ≡ true → AreTreeLines s.profile ls (record { at = None; says = phrase.Profile s.profile } ∷ rest)
+        → scenario_lines (in_profile_3 s) ≡ Some (third_tree_line ∷ rest) → PrintedAgain (in_profile_3 s)
+    by_lines [] rest carry spaced a e = absurd a
+    by_lines (l ∷ ls) rest carry spaced a e =
+        third_again s ls rest carry.1 (and_right (is_spaced l) (list_all is_spaced ls) spaced) e (later_tree_lines s.profile 3 ls rest least a.1) h.has_main short
+
+    by_first : (front rest : List TreeLine) (first : Bool) → (s.profile == 1) ≡ first → (if first then Some [] else mark (phrase.Profile s.profile)) ≡ Some front → front ++ rest ≡ rs
+        → scenario_lines (in_profile_3 s) ≡ Some (third_tree_line ∷ rest) → PrintedAgain (in_profile_3 s)
+    by_first front rest true one is whole e =
+        let none : [] ≡ front = cc in
+        let all : rest ≡ rs = ap (λ z. z ++ rest) none ∙ whole in
+        third_again s (lines bytes) rest (carry_lines bytes h.text.printable) h.text.spaced e
+        (later_tree_lines s.profile 3 (lines bytes) rest least (subst (λ z. AreTreeLines s.profile (lines bytes) z) (sym all) said)) h.has_main short
+    by_first front rest false one is whole e =
+        let tree_line : TreeLine = record { at = None; says = phrase.Profile s.profile } in
+        let named : tree_line ∷ [] ≡ front = cc in
+        let all : tree_line ∷ rest ≡ rs = ap (λ z. z ++ rest) named ∙ whole in
+        by_lines (lines bytes) rest (carry_lines bytes h.text.printable) h.text.spaced (subst (λ z. AreTreeLines s.profile (lines bytes) z) (sym all) said) e
+
+-- A tree that has a text is one of profile 3 too.
+pub third_spelt : (s : Scenario) (bytes : List ℕ) → Spells s bytes → length (printed (in_profile_3 s)) ≤ MOST_LONG_TEXT
+    → (t : Scenario) × Spells t (printed (in_profile_3 s)) × (bare (in_profile_3 s) ≡ bare t)
+third_spelt s bytes h short = by_lines (scenario_lines s) refl h.tree_lines
+  where
+    by_lines : (r : Option (List TreeLine)) → scenario_lines s ≡ r → IsSomeAnd r (AreTreeLines s.profile (lines bytes))
+        → (t : Scenario) × Spells t (printed (in_profile_3 s)) × (bare (in_profile_3 s) ≡ bare t)
+    by_lines None e a = absurd a
+    by_lines (Some rs) e a = let again = third_printed s bytes rs h e a short in (again.tree, again.spelt, again.same)

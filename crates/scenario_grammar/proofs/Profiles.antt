@@ -1,5 +1,5 @@
 -- What a line's words are in one profile and in another, and that the profile of what is begun only grows.
-use Rattle.std.proofs.Common.{◌≡◌, ◌==◌, ℕ, pos, ◌≤◌, Bool, true, false, not, nat_le, if◌then◌else◌, List, [], ◌∷◌, map, Option, Some, None, refl, sym, ap, subst, ◌∙◌, arith}
+use Rattle.std.proofs.Common.{◌≡◌, ◌==◌, ℕ, ◌≤◌, Bool, true, false, not, nat_le, if◌then◌else◌, List, [], ◌∷◌, map, Option, Some, None, refl, sym, ap, subst, ◌∙◌, arith}
 use Rattle.std.specs.List.{list_all}
 use Rattle.std.proofs.lemmas.Bool.{eqb-true, leb-true, le-leb}
 use Rattle.scenario_tree.specs.declared.tree.Declaration.{Declaration}
@@ -7,7 +7,6 @@ use Rattle.scenario_tree.specs.declared.tree.Function.{Function}
 use Rattle.scenario_grammar.specs.declared.building.OpenBlock.{OpenBlock}
 use Rattle.scenario_grammar.specs.declared.building.Opening.{Opening}
 use Rattle.scenario_grammar.specs.declared.building.Opening.TheVariants as opening
-use Rattle.scenario_grammar.specs.declared.keyword.Keyword.TheVariants as k
 use Rattle.scenario_grammar.specs.declared.phrase.Phrase.{Phrase}
 use Rattle.scenario_grammar.specs.declared.phrase.Phrase.TheVariants as phrase
 use Rattle.scenario_grammar.specs.declared.reason.TextReason.{TextReason}
@@ -24,6 +23,7 @@ use Rattle.scenario_grammar.specs.Token.{known_in, token_of, token_in}
 use Rattle.scenario_grammar.proofs.Atoms.{and_left, and_right}
 use Rattle.scenario_grammar.proofs.Begun.{begun}
 use Rattle.scenario_grammar.proofs.InWords.{is_word, phrase_in_words}
+use Rattle.scenario_grammar.proofs.Named.{named_profile}
 use Rattle.scenario_grammar.proofs.PhraseLaws.{role}
 
 -- the profile knows the word that the token stands for
@@ -87,24 +87,23 @@ pub says_later : (p q : ℕ) (says : Phrase) (ws : List Word) → p ≤ q → ph
 says_later p q says ws l h = subst (λ ts. phrase_tokens says ≡ Some ts) (sym (words_later p q ws l (phrase_in_words says (map (token_in p) ws) h))) h
 
 -- profile 1 knows the words of the line of the profile
-early_tokens : (ts : List Token) → phrase_tokens phrase.Profile ≡ Some ts → list_all (knows 1) ts ≡ true
-unfolding phrase_tokens
-early_tokens ts h = let same : token.Fixed k.Profile ∷ token.Number (pos 2) ∷ [] ≡ ts = cc in ap (list_all (knows 1)) (sym same)
+early_tokens : (named : ℕ) (ts : List Token) → phrase_tokens (phrase.Profile named) ≡ Some ts → list_all (knows 1) ts ≡ true
+early_tokens named ts h = ap (list_all (knows 1)) (sym (named_profile named ts h).written)
 
-early_words : (ws : List Word) → list_all (knows 1) (map (token_in 2) ws) ≡ true → list_all is_word (map (token_in 2) ws) ≡ true → map (token_in 1) ws ≡ map (token_in 2) ws
-early_words [] h k = refl
-early_words (w ∷ ws) h k =
-    let here = is_itself 2 (token_of w) (and_left (is_word (token_in 2 w)) (list_all is_word (map (token_in 2) ws)) k) in
-    let first = known_itself 1 (token_of w) (ap (knows 1) (sym here.0) ∙ and_left (knows 1 (token_in 2 w)) (list_all (knows 1) (map (token_in 2) ws)) h) in
-    let below = early_words ws (and_right (knows 1 (token_in 2 w)) (list_all (knows 1) (map (token_in 2) ws)) h) (and_right (is_word (token_in 2 w)) (list_all is_word (map (token_in 2) ws)) k) in
+early_words : (p : ℕ) (ws : List Word) → list_all (knows 1) (map (token_in p) ws) ≡ true → list_all is_word (map (token_in p) ws) ≡ true → map (token_in 1) ws ≡ map (token_in p) ws
+early_words p [] h k = refl
+early_words p (w ∷ ws) h k =
+    let here = is_itself p (token_of w) (and_left (is_word (token_in p w)) (list_all is_word (map (token_in p) ws)) k) in
+    let first = known_itself 1 (token_of w) (ap (knows 1) (sym here.0) ∙ and_left (knows 1 (token_in p w)) (list_all (knows 1) (map (token_in p) ws)) h) in
+    let below = early_words p ws (and_right (knows 1 (token_in p w)) (list_all (knows 1) (map (token_in p) ws)) h) (and_right (is_word (token_in p w)) (list_all is_word (map (token_in p) ws)) k) in
     λ i. (first ∙ sym here.0) i ∷ below i
 
 -- the line of the profile says so in profile 1 too
-profile_words : (ws : List Word) → phrase_tokens phrase.Profile ≡ Some (map (token_in 2) ws) → map (token_in 1) ws ≡ map (token_in 2) ws
-profile_words ws h = early_words ws (early_tokens (map (token_in 2) ws) h) (phrase_in_words phrase.Profile (map (token_in 2) ws) h)
+profile_words : (p : ℕ) (ws : List Word) → phrase_tokens (phrase.Profile p) ≡ Some (map (token_in p) ws) → map (token_in 1) ws ≡ map (token_in p) ws
+profile_words p ws h = early_words p ws (early_tokens p (map (token_in p) ws) h) (phrase_in_words (phrase.Profile p) (map (token_in p) ws) h)
 
-pub profile_said : (ws : List Word) → phrase_tokens phrase.Profile ≡ Some (map (token_in 2) ws) → phrase_tokens phrase.Profile ≡ Some (map (token_in 1) ws)
-profile_said ws h = subst (λ ts. phrase_tokens phrase.Profile ≡ Some ts) (sym (profile_words ws h)) h
+pub profile_said : (p : ℕ) (ws : List Word) → phrase_tokens (phrase.Profile p) ≡ Some (map (token_in p) ws) → phrase_tokens (phrase.Profile p) ≡ Some (map (token_in 1) ws)
+profile_said p ws h = subst (λ ts. phrase_tokens (phrase.Profile p) ≡ Some ts) (sym (profile_words p ws h)) h
 
 -- what a block becomes has the profile
 closed_profile : (b : Building) (o : OpenBlock) (op : Opening) (os : List OpenBlock) → (closed_by b o op os).profile ≡ b.profile
@@ -136,17 +135,20 @@ same_profile : (p q : ℕ) → q ≡ p → p ≤ q
 same_profile p q e = omega (arith, e)
 
 -- a line in its place leaves the profile, or says a later one
-pub step_grows : (b : Building) (n : ℕ) (p : Phrase) → misplaced (standing b) (role p) ≡ None → b.profile ≤ (step b n p).profile
-step_grows b n phrase.Profile h = let first = first_profile b.profile b.objects b.functions b.open_blocks h in omega (arith, first)
-step_grows b n (phrase.Declaration name object) h = same_profile b.profile b.profile refl
-step_grows b n (phrase.Function is_raw name ps) h = same_profile b.profile b.profile refl
-step_grows b n (phrase.Command c) h = same_profile b.profile b.profile refl
-step_grows b n (phrase.Giving t g) h = same_profile b.profile b.profile refl
-step_grows b n (phrase.If x) h = same_profile b.profile b.profile refl
-step_grows b n phrase.Else h = same_profile b.profile b.profile refl
-step_grows b n (phrase.While x) h = same_profile b.profile b.profile refl
-step_grows b n phrase.Try h = same_profile b.profile b.profile refl
-step_grows b n (phrase.Except c t) h = same_profile b.profile b.profile refl
-step_grows b n phrase.Finally h = same_profile b.profile b.profile refl
-step_grows b n (phrase.Timeout t silent) h = same_profile b.profile b.profile refl
-step_grows b n phrase.End h = same_profile b.profile (step b n phrase.End).profile (ended_profile b b.open_blocks)
+pub step_grows : (b : Building) (n : ℕ) (p : Phrase) (ts : List Token) → phrase_tokens p ≡ Some ts → misplaced (standing b) (role p) ≡ None → b.profile ≤ (step b n p).profile
+step_grows b n (phrase.Profile named) ts w h =
+    let first = first_profile b.profile b.objects b.functions b.open_blocks h in
+    let later = (named_profile named ts w).least in
+    omega (arith, first, later)
+step_grows b n (phrase.Declaration name object) ts w h = same_profile b.profile b.profile refl
+step_grows b n (phrase.Function is_raw name ps) ts w h = same_profile b.profile b.profile refl
+step_grows b n (phrase.Command c) ts w h = same_profile b.profile b.profile refl
+step_grows b n (phrase.Giving t g) ts w h = same_profile b.profile b.profile refl
+step_grows b n (phrase.If x) ts w h = same_profile b.profile b.profile refl
+step_grows b n phrase.Else ts w h = same_profile b.profile b.profile refl
+step_grows b n (phrase.While x) ts w h = same_profile b.profile b.profile refl
+step_grows b n phrase.Try ts w h = same_profile b.profile b.profile refl
+step_grows b n (phrase.Except c t) ts w h = same_profile b.profile b.profile refl
+step_grows b n phrase.Finally ts w h = same_profile b.profile b.profile refl
+step_grows b n (phrase.Timeout t silent) ts w h = same_profile b.profile b.profile refl
+step_grows b n phrase.End ts w h = same_profile b.profile (step b n phrase.End).profile (ended_profile b b.open_blocks)

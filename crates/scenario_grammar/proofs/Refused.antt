@@ -7,10 +7,9 @@ use Rattle.scenario_grammar.specs.declared.place.Place.{Place}
 use Rattle.scenario_grammar.specs.declared.reason.TextReason.{TextReason}
 use Rattle.scenario_grammar.specs.declared.reason.TextReason.TheVariants as text
 use Rattle.scenario_grammar.specs.Building.{Building}
-use Rattle.scenario_grammar.specs.Layout.{Line, lines, is_end, is_text_byte, is_ended}
-use Rattle.scenario_grammar.specs.declared.limits.TheConstants.{MOST_TEXT}
+use Rattle.scenario_grammar.specs.Layout.{Line, lines, is_end, is_text_byte, is_ended, may_be_long, most_bytes}
 use Rattle.scenario_grammar.specs.Parsed.{nothing_yet, standing, read_line, read_lines, scenario, finished, reading}
-use Rattle.scenario_grammar.specs.Place.{line_at, last_line, place_in_bytes}
+use Rattle.scenario_grammar.specs.Place.{line_at, last_line, place_in_bytes, too_large}
 use Rattle.scenario_grammar.specs.Reason.{text_number}
 use Rattle.scenario_grammar.specs.ReasonNumbers.{is_text_reason}
 
@@ -31,6 +30,7 @@ by_text text.NotClosed = refl
 by_text text.LineOutOfPlace = refl
 by_text text.NoMain = refl
 by_text text.NestedTooDeep = refl
+by_text text.LongTooLarge = refl
 
 abbrev HasReason : Place → Type 0
 HasReason p = is_text_reason p.reason ≡ true
@@ -60,17 +60,17 @@ end_so bytes b (o ∷ os) p e = this_place {A = Scenario} (record { line = last_
 some_place : (p q : Place) → HasReason p → (let o : Option Place = Some p in o) ≡ Some q → HasReason q
 some_place p q h e = let same : p ≡ q = cc in ap (λ x. is_text_reason x.reason) (sym same) ∙ h
 
-bytes_by : (long : Bool) (found : Option ℕ) (ends : Bool) (a b c : ℕ) (f : ℕ → ℕ) (p : Place)
-    → (let x : Option Place = if long then Some (record { line = a; reason = 1 }) else (elim found [ Some i ↦ Some (record { line = f i; reason = 2 }) | None ↦ if ends then None else Some (record { line = b; reason = 3 }) ]) in x) ≡ Some p
+bytes_by : (long : Bool) (found : Option ℕ) (ends : Bool) (r : TextReason) (a b : ℕ) (f : ℕ → ℕ) (p : Place)
+    → (let x : Option Place = if long then Some (record { line = a; reason = text_number r }) else (elim found [ Some i ↦ Some (record { line = f i; reason = 2 }) | None ↦ if ends then None else Some (record { line = b; reason = 3 }) ]) in x) ≡ Some p
     → HasReason p
-bytes_by true found ends a b c f p e = some_place (record { line = a; reason = 1 }) p refl e
-bytes_by false (Some i) ends a b c f p e = some_place (record { line = f i; reason = 2 }) p refl e
-bytes_by false None true a b c f p e = cc
-bytes_by false None false a b c f p e = some_place (record { line = b; reason = 3 }) p refl e
+bytes_by true found ends r a b f p e = some_place (record { line = a; reason = text_number r }) p (by_text r) e
+bytes_by false (Some i) ends r a b f p e = some_place (record { line = f i; reason = 2 }) p refl e
+bytes_by false None true r a b f p e = cc
+bytes_by false None false r a b f p e = some_place (record { line = b; reason = 3 }) p refl e
 
 bytes_so : (bytes : List ℕ) (p : Place) → place_in_bytes bytes ≡ Some p → HasReason p
 bytes_so bytes p e =
-    bytes_by (nat_lt MOST_TEXT (length bytes)) (position (λ b. not (is_text_byte b)) bytes) (is_ended bytes) (line_at MOST_TEXT bytes) (count_by is_end bytes + 1) 0 (λ i. line_at i bytes) p e
+    bytes_by (nat_lt (most_bytes bytes) (length bytes)) (position (λ b. not (is_text_byte b)) bytes) (is_ended bytes) (too_large (may_be_long bytes)) (line_at (most_bytes bytes) bytes) (count_by is_end bytes + 1) (λ i. line_at i bytes) p e
 
 text_by : (found : Option Place) (x : Result Building Place) (bytes : List ℕ) (p : Place) → ((q : Place) → found ≡ Some q → HasReason q) → ((q : Place) → x ≡ Err q → HasReason q)
     → (let y : Result Scenario Place = elim found [ Some p ↦ Err p | None ↦ elim x [ Ok b ↦ finished bytes b | Err p ↦ Err p ] ] in y) ≡ Err p → HasReason p

@@ -92,7 +92,8 @@ rows =
     row (codes "thirty three levels of blocks") (nested 32) (at 33 21) ∷
     row (codes "thirty two levels of operands") (negations 31) None ∷
     row (codes "thirty three levels of operands") (negations 32) (at 2 21) ∷
-    row (codes "profile 3") (codes "profile 3|def main|end|") (at 1 9) ∷
+    row (codes "profile 4") (codes "profile 4|def main|end|") (at 1 9) ∷
+    row (codes "profile 3") (codes "profile 3|def main|end|") None ∷
     row (codes "channel in profile 1") (codes "channel c|def main|end|") (at 1 5) ∷
     row (codes "profile behind a declaration") (codes "event e|profile 2|def main|end|") (at 2 13) ∷
     row (codes "profile 2") (codes "profile 2|def main|end|") None ∷
@@ -100,7 +101,8 @@ rows =
     row (codes "profile alone") (codes "profile|def main|end|") (at 1 6) ∷
     row (codes "profile 1") (codes "profile 1|def main|end|") (at 1 9) ∷
     row (codes "profile 2 and more") (codes "profile 2 3|def main|end|") (at 1 7) ∷
-    row (codes "profile 3 and more") (codes "profile 3 4|def main|end|") (at 1 9) ∷
+    row (codes "profile 3 and more") (codes "profile 3 4|def main|end|") (at 1 7) ∷
+    row (codes "profile 3 behind profile 2") (codes "profile 2|profile 3|def main|end|") (at 2 13) ∷
     row (codes "profile below zero") (codes "profile -2|def main|end|") (at 1 9) ∷
     row (codes "profile past 64 bits") (codes "profile 9999999999999999999999|def main|end|") (at 1 9) ∷
     row (codes "profile of minus zero") (codes "profile -0|def main|end|") (at 1 8) ∷
@@ -147,6 +149,9 @@ rows =
     row (codes "immediate in profile 1") (codes "def main|immediate|end|") (at 2 5) ∷
     row (codes "immediate") (codes "profile 2|def main|immediate|end|") (at 3 5) ∷
     row (codes "immediate as a name") (codes "profile 2|def main|let immediate 1|end|") (at 3 10) ∷
+    row (codes "profile 3 has the words of profile 2") (codes "profile 3|channel c|def main|cput c 1|x <- cget c|qshut q immediate|end|") None ∷
+    row (codes "names in profile 3 that begin no statement yet") (codes "profile 3|def cancel gadd|print gadd|end|def main|gdrop <- spawn cancel 5|end|") None ∷
+    row (codes "let outside a function in profile 3") (codes "profile 3|let n 0|def main|end|") (at 2 13) ∷
     row (codes "cget as a name in profile 1") (codes "def main|let cget 1|end|") (at 2 10) ∷
     []
 

@@ -11,11 +11,11 @@ use Rattle.scenario_grammar.specs.declared.building.OpenBlock.{OpenBlock}
 use Rattle.scenario_grammar.specs.declared.place.Place.{Place}
 use Rattle.scenario_grammar.specs.Blocks.{TreeLine, profile_lines, declaration_lines, function_lines, scenario_lines}
 use Rattle.scenario_grammar.specs.Building.{Building, step}
-use Rattle.scenario_grammar.specs.Layout.{Line, lines, is_end, is_spaced, is_ended, is_text_byte}
-use Rattle.scenario_grammar.specs.declared.limits.TheConstants.{MOST_LEVELS, MOST_TEXT}
+use Rattle.scenario_grammar.specs.Layout.{Line, lines, is_end, is_spaced, is_ended, is_text_byte, may_be_long, most_bytes}
+use Rattle.scenario_grammar.specs.declared.limits.TheConstants.{MOST_LEVELS}
 use Rattle.scenario_grammar.specs.Parsed.{nothing_yet, standing, read_words, read_line, read_lines, scenario, finished, reading}
 use Rattle.scenario_grammar.specs.Phrase.{phrase_tokens}
-use Rattle.scenario_grammar.specs.Place.{misplaced, role_of, line_at, last_line, place_in_bytes}
+use Rattle.scenario_grammar.specs.Place.{misplaced, role_of, line_at, last_line, place_in_bytes, too_large}
 use Rattle.scenario_grammar.specs.Reading.{phrase_of, ◌>>=◌}
 use Rattle.scenario_grammar.specs.Spells.{IsTreeLine, AreTreeLines, is_main, Spells}
 use Rattle.scenario_grammar.specs.Token.{◌⊕◌, each, token_in}
@@ -100,8 +100,8 @@ lines_read [] b c e before k r =
 lines_read (l ∷ ls) b c e before k r =
     let f = first_line b c l ls r in
     let one = line_read b f.between l f.first in
-    let s = steps b e l.number one.phrase before k one.placed in
-    let first : b.profile ≤ f.between.profile = subst (λ d. b.profile ≤ d.profile) (sym one.made) (step_grows b l.number one.phrase one.placed) in
+    let s = steps b e l.number one.phrase (map (token_in b.profile) l.words) before one.says k one.placed in
+    let first : b.profile ≤ f.between.profile = subst (λ d. b.profile ≤ d.profile) (sym one.made) (step_grows b l.number one.phrase (map (token_in b.profile) l.words) one.says one.placed) in
     let below = lines_read ls f.between c s.left (before ++ s.tree_line ∷ []) (subst (λ d. Kept s.left d (before ++ s.tree_line ∷ [])) (sym one.made) s.kept) f.others in
     record {
       spaced = rw (one.spaced, below.spaced) refl;
@@ -136,16 +136,16 @@ all_printable i (b ∷ bs) e =
     rw (s.0, all_printable (i + 1) bs s.1) refl
 
 record TextBytes (bytes : List ℕ) : Type 0 where
-  short : length bytes ≤ MOST_TEXT
+  short : length bytes ≤ most_bytes bytes
   printable : IsTrue (list_all is_text_byte bytes)
   ended : IsTrue (is_ended bytes)
 
 text_bytes : (bytes : List ℕ) → place_in_bytes bytes ≡ None → TextBytes bytes
 text_bytes bytes e =
-    let w = whole_bytes (nat_lt MOST_TEXT (length bytes)) (position (λ b. not (is_text_byte b)) bytes) (is_ended bytes)
-    (record { line = line_at MOST_TEXT bytes; reason = 1 }) (record { line = count_by is_end bytes + 1; reason = 3 }) (λ i. record { line = line_at i bytes; reason = 2 }) e in
+    let w = whole_bytes (nat_lt (most_bytes bytes) (length bytes)) (position (λ b. not (is_text_byte b)) bytes) (is_ended bytes)
+    (record { line = line_at (most_bytes bytes) bytes; reason = text_number (too_large (may_be_long bytes)) }) (record { line = count_by is_end bytes + 1; reason = 3 }) (λ i. record { line = line_at i bytes; reason = 2 }) e in
     record {
-      short = ltb-false MOST_TEXT (length bytes) w.short;
+      short = ltb-false (most_bytes bytes) (length bytes) w.short;
       printable = all_printable 0 bytes (sym (position_from-zero (λ b. not (is_text_byte b)) bytes) ∙ w.printable);
       ended = w.ended;
     }

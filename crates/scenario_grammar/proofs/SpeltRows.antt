@@ -175,3 +175,22 @@ later_printed : printed later_tree ≡ text (codes "profile 2" ∷ codes "queue 
     ∷ codes "  cget c" ∷ codes "  qshut q" ∷ codes "  qshut q immediate" ∷ codes "end" ∷ [])
 unfolding printed lines scenario_lines block_within phrase_tokens tokens_within keyword_of keywords name out-Expression out-Action out digits shown-the_row-Expression-0 shown-the_row-Expression-1 shown-the_row-Statement-0 shown-the_row-Except-1 shown hidden
 later_printed = refl
+
+-- a text of profile 3
+abbrev third_text : List ℕ
+third_text = text (codes "# x" ∷ codes " profile 3" ∷ codes "event e" ∷ codes "def main" ∷ codes "end" ∷ [])
+
+abbrev third_tree : Scenario
+third_tree = record {
+  profile = 3;
+  objects = record { line = 3; name = codes "e"; object = object.Event } ∷ [];
+  functions = record { line = 4; is_raw = false; name = codes "main"; parameters = []; body = [] } ∷ [];
+}
+
+third_read : reading third_text ≡ Ok third_tree
+unfolding reading read_lines lines token_of keyword_of keywords phrase_of nested_at name_at number_at integer_at
+third_read = refl
+
+third_printed : printed third_tree ≡ text (codes "profile 3" ∷ codes "event e" ∷ codes "def main" ∷ codes "end" ∷ [])
+unfolding printed scenario_lines block_within phrase_tokens tokens_within keyword_of keywords name out-Expression out-Action out digits
+third_printed = refl

@@ -20,11 +20,10 @@ use Rattle.scenario_grammar.specs.Phrase.{ms, timed_tokens, wait_tokens, marked,
 use Rattle.scenario_grammar.specs.declared.limits.TheConstants.{MOST_MS, MOST_NESTED, MOST_QUEUE_PLACES}
 use Rattle.scenario_grammar.specs.Reading.{Reader, Reading, ◌<$>◌, ◌<*>◌, name_at, number_at, ms_at, expression_at, wait_at, with_at, timed_at, under_at, count_of_at, takes_at, now_at, silent_at, immediate_at, after_at, word_at, job_kind_of, queue_of, fault_class_of, class_at, binding_at, size_at, to_the_end, all_at}
 use Rattle.scenario_grammar.proofs.Parts.{AreProper, Built, Sound, Full, Anything, ok_first, ok_second, proper_at, both, map_sound, then_sound, map_full, then_full}
-use Rattle.scenario_grammar.proofs.Atoms.{and_left, and_right, kept, name_sound, name_full, number_sound, number_full}
+use Rattle.scenario_grammar.proofs.Atoms.{kept, name_sound, name_full, number_sound, number_full}
 use Rattle.scenario_grammar.proofs.ExpressionLaws.{nested_sound, nested_full}
 use Rattle.scenario_grammar.specs.declared.reason.TextReason.{TextReason}
 use Rattle.scenario_grammar.specs.declared.reason.TextReason.TheVariants as reason
-use Rattle.std.proofs.lemmas.Bool.{leb-true}
 use Rattle.gv_values.specs.declared.limits.TheConstants.{MOST_ELEMENTS}
 
 -- What is read was written so, and what was written is read, where what follows is as asked.
@@ -442,20 +441,3 @@ all_parts {A = A} {writes = writes} {reader = reader} part r none = record { sou
         let some : 1 ≤ length parts.0 = some_token x parts.0 parts.2 in
         rw (sym parts.4, append_assoc parts.0 parts.1 rest)
         (one_more n x xs parts.0 parts.1 rest some parts.2 (written_so n xs parts.1 rest parts.3 h (omega (arith, l, some, length-append parts.0 parts.1, ap length parts.4))))
-
--- a number that may be only this one, whatever is made of it
-pub one_number : {C : Type 0} (n : ℕ) (made : C) → Faithful {E = Unit {0}} (λ _. made) (λ _. number n n n) Anything ((λ m. made) <$> number_at n n)
-one_number n made = record { sound = read_so; full = λ p front rest w h. map_full (λ m. made) (λ m. m) (number n n) Anything (number_at n n) (number_full n n) n front rest w h }
-  where
-    only : (m : ℕ) (front : List Token) → number n n m ≡ Some front → number n n n ≡ Some front
-    only m front w =
-        let tests = kept (nat_le n m && nat_le m n) (Some (token.Number (pos m) ∷ [])) front w in
-        let low = leb-true n m (and_left (nat_le n m) (nat_le m n) tests.0) in
-        let high = leb-true m n (and_right (nat_le n m) (nat_le m n) tests.0) in
-        let same : m ≡ n = omega (arith, low, high) in
-        subst (λ x. number n n x ≡ Some front) same w
-
-    read_so : Sound {E = Unit {0}} (λ _. made) (λ _. number n n n) ((λ m. made) <$> number_at n n)
-    read_so ts rest c h e =
-        let b = map_sound (λ m. made) (λ m. m) (number n n) (number_at n n) (number_sound n n) ts rest c h e in
-        record { parts = tt; made_of = b.made_of; front = b.front; written = only b.parts b.front b.written; whole = b.whole; proper = b.proper }

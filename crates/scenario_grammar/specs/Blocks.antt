@@ -72,9 +72,10 @@ declaration_lines d = line d.line (phrase.Declaration d.name d.object)
 abbrev pub function_lines : Function → Written TreeLine
 function_lines f = line f.line (phrase.Function f.is_raw f.name f.parameters) ⊕ block_within MOST_LEVELS f.body ⊕ mark phrase.End
 
--- The line `profile 2` of a tree of profile 2. A tree of profile 1 has none, and one of another profile has no text.
+-- The line of the profile, as `profile 3`. A tree of profile 1 has none, and that of a profile that is neither 2 nor 3
+-- has no words.
 abbrev pub profile_lines : ℕ → Written TreeLine
-profile_lines profile = if profile == 1 then Some [] else only_if (profile == 2) (mark phrase.Profile)
+profile_lines profile = if profile == 1 then Some [] else mark (phrase.Profile profile)
 
 -- all lines of a tree: its profile, the declarations, then the functions
 unfoldable pub scenario_lines : Scenario → Written TreeLine

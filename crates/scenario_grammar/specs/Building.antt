@@ -77,7 +77,7 @@ ended b = elim b.open_blocks [ [] ↦ b | o ∷ os ↦ closed_by b o o.opening o
 
 -- one more line
 abbrev pub step : Building → ℕ → Phrase → Building
-step b n phrase.Profile = record b { profile = 2 }
+step b n (phrase.Profile profile) = record b { profile = profile }
 step b n (phrase.Declaration name object) = record b { objects = b.objects ++ record { line = n; name = name; object = object } ∷ [] }
 step b n (phrase.Function is_raw name parameters) = opened n (opening.Function is_raw name parameters) b
 step b n (phrase.Command c) = added (at n (a.Command c) ∷ []) b

@@ -190,7 +190,7 @@ head_tokens true n _ = None
 
 -- the tokens of a line
 unfoldable pub phrase_tokens : Phrase → Written Token
-phrase_tokens phrase.Profile = k.Profile ▹ number 2 2 2
+phrase_tokens (phrase.Profile n) = k.Profile ▹ number 2 3 n
 phrase_tokens (phrase.Declaration n o) = object_tokens o n
 phrase_tokens (phrase.Function is_raw n parameters) = head_tokens is_raw n parameters
 phrase_tokens (phrase.Command c) = command_tokens c

@@ -10,8 +10,8 @@ use Rattle.scenario_grammar.specs.declared.reason.TextReason.{TextReason}
 use Rattle.scenario_grammar.specs.declared.reason.TextReason.TheVariants as reason
 use Rattle.scenario_grammar.specs.declared.token.Token.{Token}
 use Rattle.scenario_grammar.specs.declared.token.Token.TheVariants as token
-use Rattle.scenario_grammar.specs.Layout.{Line, lines, is_end, is_text_byte, is_spaced, is_ended}
-use Rattle.scenario_grammar.specs.declared.limits.TheConstants.{MOST_LEVELS, MOST_TEXT}
+use Rattle.scenario_grammar.specs.Layout.{Line, lines, is_end, is_text_byte, is_spaced, is_ended, may_be_long, most_bytes}
+use Rattle.scenario_grammar.specs.declared.limits.TheConstants.{MOST_LEVELS}
 use Rattle.scenario_grammar.specs.Token.{token_in}
 use Rattle.scenario_grammar.specs.Reading.{phrase_of, gives, is_given, ◌>>=◌}
 use Rattle.scenario_grammar.specs.Reason.{text_number}
@@ -147,7 +147,7 @@ replaced s o = record s { open_blocks = elim s.open_blocks [ [] ↦ [] | p ∷ o
 
 -- what stands after a line that says this; statements stand in a function, and so behind a line
 abbrev pub after : Standing → Phrase → Standing
-after s phrase.Profile = record s { profile = 2; any_line = true }
+after s (phrase.Profile profile) = record s { profile = profile; any_line = true }
 after s (phrase.Declaration n o) = record s { any_line = true }
 after s (phrase.Function is_raw n parameters) = record { profile = s.profile; any_line = true; open_blocks = Body ∷ []; begun = true; has_main = s.has_main || not is_raw && pointwise nat_eq n (codes "main") }
 after s (phrase.Command c) = s
@@ -193,10 +193,14 @@ at_the_end last s = elim s.open_blocks [
 abbrev pub place_in_lines : List ℕ → Option Place
 place_in_lines bytes = elim (judge_lines at_the_start (lines bytes)) [ Ok s ↦ at_the_end (last_line bytes) s | Err p ↦ Some p ]
 
+-- why a text with too many bytes is refused, which may be long or not
+abbrev pub too_large : Bool → TextReason
+too_large long = if long then reason.LongTooLarge else reason.TooLarge
+
 -- where the bytes as a whole are no text, before any line is judged
 abbrev pub place_in_bytes : List ℕ → Option Place
 place_in_bytes bytes =
-    if nat_lt MOST_TEXT (length bytes) then Some (record { line = line_at MOST_TEXT bytes; reason = text_number reason.TooLarge })
+    if nat_lt (most_bytes bytes) (length bytes) then Some (record { line = line_at (most_bytes bytes) bytes; reason = text_number (too_large (may_be_long bytes)) })
     else (elim (position (λ b. not (is_text_byte b)) bytes) [
       | Some i ↦ Some (record { line = line_at i bytes; reason = text_number reason.NotPrintable })
       | None ↦ if is_ended bytes then None else Some (record { line = count_by is_end bytes + 1; reason = text_number reason.NotEnded })

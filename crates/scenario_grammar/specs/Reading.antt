@@ -360,7 +360,7 @@ giving_at (t ∷ ts) = Err reason.UnknownWord
 
 -- the rest of a line, by its first word
 abbrev pub phrase_by : Keyword → Reader Phrase
-phrase_by k.Profile = (λ n. phrase.Profile) <$> number_at 2 2
+phrase_by k.Profile = (λ n. phrase.Profile n) <$> number_at 2 3
 phrase_by k.Event = (λ n. phrase.Declaration n object.Event) <$> name_at
 phrase_by k.Result = (λ n. phrase.Declaration n object.Result) <$> name_at
 phrase_by k.Sem = (λ n x. phrase.Declaration n (object.Semaphore x)) <$> name_at <*> number_at 0 MOST_UNITS

@@ -1,7 +1,7 @@
 -- Why a text or a scenario is refused: the numbers that a refusal shows, and their texts.
-use Rattle.std.specs.Prelude.{ℕ, ◌-◌, List, [], ◌∷◌, ◌++◌, codes, slice_index_or}
+use Rattle.std.specs.Prelude.{ℕ, ◌-◌, ◌==◌, if◌then◌else◌, List, [], ◌∷◌, ◌++◌, codes, slice_index_or}
 use Rattle.gv_values.specs.Texts.{decimal}
-use Rattle.scenario_grammar.specs.declared.limits.TheConstants.{MOST_LEVELS, MOST_TEXT}
+use Rattle.scenario_grammar.specs.declared.limits.TheConstants.{MOST_LEVELS, MOST_LONG_TEXT, MOST_TEXT}
 use Rattle.scenario_grammar.specs.declared.reason.TextReason.{TextReason}
 use Rattle.scenario_grammar.specs.declared.reason.TextReason.TheVariants as text
 use Rattle.scenario_grammar.specs.declared.reason.RuleReason.{RuleReason}
@@ -24,6 +24,7 @@ text_number text.NotClosed = 12
 text_number text.LineOutOfPlace = 13
 text_number text.NoMain = 14
 text_number text.NestedTooDeep = 21
+text_number text.LongTooLarge = 26
 
 -- the number of a reason why a scenario breaks its rules
 abbrev pub rule_number : RuleReason → ℕ
@@ -35,10 +36,14 @@ rule_number rule.HubInRawBody = 19
 rule_number rule.TimeoutsTooDeep = 20
 rule_number rule.TooMany = 22
 
+-- what the refusal of a text says that is longer than so many bytes
+abbrev pub longer_than : ℕ → List ℕ
+longer_than most = codes "text longer than " ++ decimal most ++ codes " bytes"
+
 -- what a refusal says, from number 1 on
 abbrev pub texts : List (List ℕ)
 texts =
-    (codes "text longer than " ++ decimal MOST_TEXT ++ codes " bytes")
+    longer_than MOST_TEXT
     ∷ codes "byte that is not printable ASCII"
     ∷ codes "last line not ended"
     ∷ codes "blank out of place"
@@ -64,4 +69,4 @@ texts =
 
 -- the text of the reason of this number
 abbrev pub reason_text : ℕ → List ℕ
-reason_text reason = slice_index_or texts (reason - 1) []
+reason_text reason = if reason == 26 then longer_than MOST_LONG_TEXT else slice_index_or texts (reason - 1) []

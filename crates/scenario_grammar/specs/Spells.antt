@@ -26,7 +26,7 @@ abbrev pub is_main : Function → Bool
 is_main f = not f.is_raw && pointwise nat_eq f.name (codes "main")
 
 -- The bytes are a text of the tree: line by line they say what it says, in its profile, and there is a `main`. A tree
--- whose profile is neither 1 nor 2 has no tree_lines, and so no text.
+-- whose profile is none of 1, 2 and 3 has no text.
 pub record Spells (s : Scenario) (bytes : List ℕ) : Type 0 where
   pub text : IsText bytes
   pub tree_lines : IsSomeAnd (scenario_lines s) (AreTreeLines s.profile (lines bytes))

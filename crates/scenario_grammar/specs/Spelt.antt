@@ -7,3 +7,7 @@ use Rattle.scenario_grammar.specs.Spells.{Spells}
 -- longer than a text may be.
 abbrev pub HasSpelling : Scenario → Type 0
 HasSpelling s = (bytes : List ℕ) × Spells s bytes
+
+-- the same tree, of profile 3
+abbrev pub in_profile_3 : Scenario → Scenario
+in_profile_3 s = record s { profile = 3 }

@@ -1,7 +1,10 @@
 //! The limits of a text and of its lines.
 
-/// The most bytes of a text.
+/// The most bytes of a text of profile 1 or 2.
 pub const MOST_TEXT: usize = 1048576;
+
+/// The most bytes of a text of profile 3.
+pub const MOST_LONG_TEXT: usize = 16777216;
 
 /// The most levels of blocks inside each other, a function's body being the first.
 pub const MOST_LEVELS: usize = 32;

@@ -4,8 +4,8 @@ use scenario_tree::{Command, Expression, Giving, Items, Object};
 /// What one line says.
 #[derive(Drop)]
 pub enum Phrase {
-    /// `profile 2`: the text is of profile 2.
-    Profile,
+    /// The number of the text's profile: 2 or 3.
+    Profile(u8),
     Declaration(Name, Object),
     /// Whether it is a body of raw greenlets, its name and its parameters.
     Function(bool, Name, Items<Name>),

@@ -1,12 +1,12 @@
 //! Why a text or a scenario is refused, by names; the numbers are those that a refusal shows.
-ghost use Rattle.std.specs.Prelude.{◌≡◌, ◌≤◌};
+ghost use Rattle.std.specs.Prelude.{◌≡◌, IsTrue};
 ghost use Rattle.scenario_grammar.specs.Reason.{reason_text, rule_number, text_number};
-ghost use Rattle.scenario_grammar.specs.ReasonNumbers.{last_reason};
+ghost use Rattle.scenario_grammar.specs.ReasonNumbers.{is_reason};
 
 /// Why bytes are no text of a scenario.
 #[derive(Clone, Copy, PartialEq, Eq)]
 pub enum TextReason {
-    /// The text is longer than `MOST_TEXT` bytes.
+    /// The text is longer than `MOST_TEXT` bytes, and not of profile 3.
     TooLarge,
     /// A byte is neither LF nor printable ASCII.
     NotPrintable,
@@ -38,6 +38,8 @@ pub enum TextReason {
     NoMain,
     /// Blocks nest past `MOST_LEVELS` levels, or an expression past `MOST_NESTED`.
     NestedTooDeep,
+    /// The text is of profile 3, and longer than `MOST_LONG_TEXT` bytes.
+    LongTooLarge,
 }
 
 impl TextReason {
@@ -61,6 +63,7 @@ impl TextReason {
             TextReason::LineOutOfPlace => 13,
             TextReason::NoMain => 14,
             TextReason::NestedTooDeep => 21,
+            TextReason::LongTooLarge => 26,
         }
     }
 }
@@ -101,10 +104,9 @@ impl RuleReason {
     }
 }
 
-/// The text that a refusal shows for the reason of this number, of which there are 22.
+/// The text that a refusal shows for the reason of this number: one from 1 to 22, or 26.
 pub fn reason_text(reason: u8) -> &'static str
-    requires from_one { 1 ≤ reason }
-    requires to_last { reason ≤ last_reason }
+    requires { IsTrue (is_reason reason) }
     ensures { result.now ≡ reason_text reason }
 {
     match reason {
@@ -130,6 +132,7 @@ pub fn reason_text(reason: u8) -> &'static str
         20 => "timeout blocks nested past 8",
         21 => "nesting past 32",
         22 => "too many declarations",
+        26 => "text longer than 16777216 bytes",
         // The requires say that it is one of these.
         _ => unreachable!(),
     }

@@ -3,7 +3,7 @@ use Rattle.std.proofs.Common.{◌≡◌, ◌≤◌, ◌↔◌, ℕ, List, length
 use Rattle.scenario_tree.specs.declared.tree.Scenario.{Scenario}
 use Rattle.scenario_grammar.specs.declared.place.Place.{Place}
 use Rattle.scenario_grammar.specs.Bare.{bare}
-use Rattle.scenario_grammar.specs.declared.limits.TheConstants.{MOST_TEXT}
+use Rattle.scenario_grammar.specs.Layout.{most_of_profile}
 use Rattle.scenario_grammar.specs.Parsed.{reading}
 use Rattle.scenario_grammar.specs.Place.{place}
 use Rattle.scenario_grammar.specs.Printed.{printed}
@@ -24,6 +24,6 @@ parsed_is_refused at spelt bytes (Ok s) h = tt
 parsed_is_refused at spelt bytes (Err (parse.Refused p)) h = (at bytes p h, λ s t. let n = (spelt bytes).1 (s, t) in let e = at bytes p h in cc)
 parsed_is_refused at spelt bytes (Err parse.Memory) h = tt
 
-pub read_again : ((s : Scenario) → HasSpelling s → length (printed s) ≤ MOST_TEXT → (t : Scenario) × Spells t (printed s) × (bare s ≡ bare t))
+pub read_again : ((s : Scenario) → HasSpelling s → length (printed s) ≤ most_of_profile s.profile → (t : Scenario) × Spells t (printed s) × (bare s ≡ bare t))
     → ((s : Scenario) (bytes : List ℕ) → Spells s bytes → reading bytes ≡ Ok s) → (s : Scenario) → IsWritten s → IsReadAgain s
 read_again spelt read s w few = let t = spelt s w.spelt few in (t.0, (read t.0 (printed s) t.1, t.2))

@@ -2,6 +2,7 @@ mod Carried
 mod Fronts
 mod Last
 mod Laws
+mod LongTexts
 mod Marked
 mod Scan
 mod Standings

@@ -1,5 +1,5 @@
 -- A text read line by line from the left.
-use Rattle.std.proofs.Common.{◌≡◌, ℕ, zero, suc, ◌+◌, ◌-◌, ◌<◌, ◌≤◌, Bool, true, false, ◌&&◌, cond, not, nat_lt, if◌then◌else◌, List, [], ◌∷◌, ◌++◌, Option, Some, None, Result, Ok, Err, position, count_by, length, take, drop, get_or, max, nat_le, ◌==◌, refl, inl, inr, ap, sym, ◌∙◌, arith}
+use Rattle.std.proofs.Common.{◌≡◌, ℕ, zero, suc, ◌+◌, ◌-◌, ◌<◌, ◌≤◌, Bool, true, false, ◌&&◌, cond, not, nat_lt, if◌then◌else◌, List, [], ◌∷◌, ◌++◌, Option, Some, None, Result, Ok, Err, position, count_by, length, take, drop, get_or, max, nat_le, ◌==◌, refl, inl, inr, ap, sym, subst, ◌∙◌, arith}
 use Rattle.std.specs.Option.{option_map}
 use Rattle.std.proofs.lemmas.Bool.{and_parts, cases_Bool, cases_lt, cond-false, cond-true, leb-true, le-ltb, lt-ltb, ne_eqb, not_from_false, not_from_true, or_parts}
 use Rattle.std.specs.List.{list_all, slice_split, onto_first, position_or_len}
@@ -8,10 +8,9 @@ use Rattle.std.proofs.lemmas.List.Sums.{sum_by-cons}
 use Rattle.scenario_tree.specs.declared.tree.Scenario.{Scenario}
 use Rattle.scenario_grammar.specs.declared.place.Place.{Place}
 use Rattle.scenario_grammar.specs.Building.{Building}
-use Rattle.scenario_grammar.specs.Layout.{Line, lines, lines_from, with_line, drop_blanks, is_end, is_text_byte, is_ended, is_blank}
-use Rattle.scenario_grammar.specs.declared.limits.TheConstants.{MOST_TEXT}
+use Rattle.scenario_grammar.specs.Layout.{Line, lines, lines_from, with_line, drop_blanks, is_end, is_text_byte, is_ended, is_blank, may_be_long, most_bytes, most_of}
 use Rattle.scenario_grammar.specs.Parsed.{finished, read_line, read_lines, read_text, reading, nothing_yet, standing, scenario}
-use Rattle.scenario_grammar.specs.Place.{at_the_end, line_at, last_line, place_in_bytes}
+use Rattle.scenario_grammar.specs.Place.{at_the_end, line_at, last_line, place_in_bytes, too_large}
 use Rattle.scenario_grammar.specs.declared.reason.TextReason.{TextReason}
 use Rattle.scenario_grammar.specs.declared.reason.TextReason.TheVariants as reason
 use Rattle.scenario_grammar.specs.Reason.{text_number}
@@ -217,15 +216,27 @@ unfolding lines
 read_all bytes = finished_at bytes (read_lines nothing_yet (lines_from 1 (slice_split is_end bytes)))
 
 -- where the text is not too long, the whole is what the grammar reads
-pub outcome_all : (bytes : List ℕ) → length bytes ≤ MOST_TEXT → reading bytes ≡ outcome 1 (Ok nothing_yet) bytes
+pub outcome_all : (bytes : List ℕ) → length bytes ≤ most_bytes bytes → reading bytes ≡ outcome 1 (Ok nothing_yet) bytes
 unfolding reading
 outcome_all bytes h =
-    let p : place_in_bytes bytes ≡ fault_from 1 bytes = cond-false _ _ _ (le-ltb MOST_TEXT (length bytes) h) ∙ fault_is 1 bytes in
+    let p : place_in_bytes bytes ≡ fault_from 1 bytes = cond-false _ _ _ (le-ltb (most_bytes bytes) (length bytes) h) ∙ fault_is 1 bytes in
     ap (λ o. choose o (read_text bytes)) p ∙ ap (choose (fault_from 1 bytes)) (read_all bytes)
 
-pub too_long : (bytes : List ℕ) → MOST_TEXT < length bytes → reading bytes ≡ Err (record { line = line_at MOST_TEXT bytes; reason = 1 })
+pub too_long : (bytes : List ℕ) → most_bytes bytes < length bytes → reading bytes ≡ Err (record { line = line_at (most_bytes bytes) bytes; reason = text_number (too_large (may_be_long bytes)) })
 unfolding reading
-too_long bytes h = ap (λ o. choose o (read_text bytes)) (cond-true _ _ _ (lt-ltb MOST_TEXT (length bytes) h))
+too_long bytes h = ap (λ o. choose o (read_text bytes)) (cond-true _ _ _ (lt-ltb (most_bytes bytes) (length bytes) h))
+
+-- the same, by what was found of the text
+pub too_long_by : (bytes : List ℕ) (line most : ℕ) (long : Bool) (why : TextReason) → most ≡ most_of long → long ≡ may_be_long bytes → most < length bytes → line ≡ line_at most bytes → why ≡ too_large long
+    → reading bytes ≡ Err (record { line = line; reason = text_number why })
+too_long_by bytes line most long why m l h at so =
+    let whole : most ≡ most_bytes bytes = m ∙ ap most_of l in
+    let place : line ≡ line_at (most_bytes bytes) bytes = at ∙ ap (λ n. line_at n bytes) whole in
+    let reason_is : why ≡ too_large (may_be_long bytes) = so ∙ ap too_large l in
+    let found : Place = record { line = line; reason = text_number why } in
+    let told : Place = record { line = line_at (most_bytes bytes) bytes; reason = text_number (too_large (may_be_long bytes)) } in
+    let same : found ≡ told = λ i. record { line = place i; reason = text_number (reason_is i) } in
+    too_long bytes (subst (λ n. n < length bytes) whole h) ∙ ap (λ p. let r : Result Scenario Place = Err p in r) (sym same)
 
 pub outcome_unended_all : (n : ℕ) (before : Result Building Place) (bytes : List ℕ) → 0 < length bytes → list_all is_printable bytes ≡ true → outcome n before bytes ≡ Err (record { line = n; reason = text_number reason.NotEnded })
 outcome_unended_all n before [] more h = absurd (omega (arith, more))

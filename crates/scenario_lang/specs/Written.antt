@@ -3,7 +3,7 @@ use Rattle.std.specs.Prelude.{◌≡◌, ◌≤◌, IsTrue, Ok, length}
 use Rattle.std.specs.List.{list_any}
 use Rattle.scenario_tree.specs.declared.tree.Scenario.{Scenario}
 use Rattle.scenario_grammar.specs.Bare.{bare}
-use Rattle.scenario_grammar.specs.declared.limits.TheConstants.{MOST_TEXT}
+use Rattle.scenario_grammar.specs.Layout.{most_of_profile}
 use Rattle.scenario_grammar.specs.Parsed.{reading}
 use Rattle.scenario_grammar.specs.Printed.{printed}
 use Rattle.scenario_grammar.specs.Spells.{is_main}
@@ -21,7 +21,7 @@ pub record IsWritten (s : Scenario) : Type 0 where
   pub text : HasText s
   pub main : DefinesMain s
 
--- The printed form, where it is no longer than a text may be, is read as the same tree but for the numbers of its
--- lines.
+-- The printed form, where it is no longer than a text of the profile may be, is read as the same tree but for the
+-- numbers of its lines.
 abbrev pub IsReadAgain : Scenario → Type 0
-IsReadAgain s = length (printed s) ≤ MOST_TEXT → (t : Scenario) × ((reading (printed s) ≡ Ok t) × (bare s ≡ bare t))
+IsReadAgain s = length (printed s) ≤ most_of_profile s.profile → (t : Scenario) × ((reading (printed s) ≡ Ok t) × (bare s ≡ bare t))

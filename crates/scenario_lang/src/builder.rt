@@ -51,8 +51,8 @@ impl Builder {
         ensures { OnOk result (building self.new ≡ step (building self.old) line phrase) }
     {
         match phrase {
-            Phrase::Profile => {
-                self.profile = 2;
+            Phrase::Profile(profile) => {
+                self.profile = profile;
                 Ok(())
             }
             Phrase::Declaration(name, object) => {

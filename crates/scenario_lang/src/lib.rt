@@ -11,6 +11,6 @@ mod text;
 
 pub use builder::is_main;
 pub use scenario::{Scenario, print};
-pub use scenario_grammar::{MOST_TEXT, reason_text};
+pub use scenario_grammar::{MOST_LONG_TEXT, MOST_TEXT, reason_text};
 pub use scenario_print::spelt_trees_have_text;
 pub use text::{ParseRefusal, parse};

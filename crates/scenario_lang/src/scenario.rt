@@ -56,10 +56,10 @@ impl Scenario {
 }
 
 /// Appends the printed form of the scenario: its one text with two blanks for each open block and
-/// no line that carries nothing. A scenario of profile 2 has `profile 2` as the first line.
+/// no line that carries nothing. The first line names the profile, where that is not 1.
 ///
-/// Where the printed form has at most `MOST_TEXT` bytes, [`parse`](crate::parse) of it gives the tree
-/// again, but for the numbers of its lines.
+/// Where the printed form has no more bytes than a text of the profile may have,
+/// [`parse`](crate::parse) of it gives the tree again, but for the numbers of its lines.
 ///
 /// # Errors
 ///

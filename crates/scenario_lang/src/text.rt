@@ -1,9 +1,9 @@
 //! Reading a text.
-ghost use Rattle.std.specs.Prelude.{◌≡◌, ◌+◌, ◌-◌, ◌≤◌, ◌<◌, ◌^◌, None, OnOk, count_by, length, max};
-ghost use Rattle.scenario_grammar.specs.Layout.{is_end};
-ghost use Rattle.scenario_grammar.specs.declared.limits.TheConstants.{MOST_TEXT};
+ghost use Rattle.std.specs.Prelude.{◌≡◌, ◌+◌, ◌-◌, ◌≤◌, ◌<◌, ◌^◌, IfSome, None, OnOk, count_by, length, max, position};
+ghost use Rattle.scenario_grammar.specs.Layout.{is_end, most_of, says_long};
+ghost use Rattle.scenario_grammar.specs.declared.limits.TheConstants.{MOST_LONG_TEXT, MOST_TEXT};
 ghost use Rattle.scenario_grammar.specs.Parsed.{nothing_yet, read_words, reading};
-ghost use Rattle.scenario_grammar.specs.Place.{line_at};
+ghost use Rattle.scenario_grammar.specs.Place.{line_at, too_large};
 ghost use Rattle.scenario_grammar.specs.Reason.{text_number};
 ghost use Rattle.scenario_lang.specs.Builders.{building};
 ghost use Rattle.scenario_lang.specs.Lines.{IsRefused, IsSpelt, Parses, Takes, after_line, carries, ended_at, line_text, outcome, placed, state_of};
@@ -12,7 +12,8 @@ use crate::builder::Builder;
 use crate::role::line_role;
 use crate::scenario::Scenario;
 use scenario_grammar::{
-    MOST_TEXT, Place, TextReason, Token, read_texts_are_spelt, texts_without_a_place_are_spelt,
+    MOST_LONG_TEXT, MOST_TEXT, Place, TextReason, Token, read_texts_are_spelt,
+    texts_without_a_place_are_spelt,
 };
 use scenario_lines::{
     Front, LineRefusal, cut_at, first_line, line_tokens, read_phrase, skip_blanks,
@@ -162,7 +163,7 @@ impl Reader {
 }
 
 fn read_text(alloc: Global, bytes: &[u8]) -> Result<Tree, ParseRefusal>
-    requires { length bytes.now ≤ MOST_TEXT }
+    requires { length bytes.now ≤ MOST_LONG_TEXT }
     ensures { Parses (outcome 1 (Ok nothing_yet) bytes.now) result }
 {
     let mut reader = Reader::new(alloc);
@@ -222,10 +223,58 @@ fn parse_tree(alloc: Global, bytes: &[u8]) -> Result<Tree, ParseRefusal>
 fn read_bytes(alloc: Global, bytes: &[u8]) -> Result<Tree, ParseRefusal>
     ensures { Parses (reading bytes.now) result }
 {
-    if bytes.len() > MOST_TEXT {
-        return Err(refused(line_behind(bytes, MOST_TEXT), TextReason::TooLarge));
+    if bytes.len() <= MOST_TEXT {
+        return read_text(alloc, bytes);
+    }
+    let long = says_long(&bytes[..MOST_TEXT]);
+    let most = most_of(long);
+    if bytes.len() > most {
+        return Err(refused(line_behind(bytes, most), too_large(long)));
     }
     read_text(alloc, bytes)
+}
+
+/// The most bytes of a text that may be long, or may not.
+fn most_of(long: bool) -> usize
+    ensures value { result ≡ most_of long }
+    ensures bound { result ≤ MOST_LONG_TEXT }
+{
+    if long { MOST_LONG_TEXT } else { MOST_TEXT }
+}
+
+/// Why a text is refused that has more.
+fn too_large(long: bool) -> TextReason
+    ensures { result ≡ too_large long }
+{
+    if long {
+        TextReason::LongTooLarge
+    } else {
+        TextReason::TooLarge
+    }
+}
+
+/// Whether a text that begins so may be long: the first line that carries something is
+/// `profile 3`.
+fn says_long(bytes: &[u8]) -> bool
+    ensures { result ≡ says_long bytes.now }
+{
+    let mut rest = bytes;
+    while let Some(at) = first_end(rest) {
+        let (line, more) = cut_at(rest, at);
+        let words = skip_blanks(line);
+        if carries_words(words) {
+            return words == b"profile 3".as_slice();
+        }
+        rest = more;
+    }
+    false
+}
+
+fn first_end(text: &[u8]) -> Option<usize>
+    ensures value { result ≡ position is_end text.now }
+    ensures within { IfSome result (λ at. at < length text.now) }
+{
+    text.iter().position(|b| *b == b'\n')
 }
 
 /// The line of the byte that stands behind so many.

@@ -1,6 +1,6 @@
 mod Counted
 mod Numbers
-mod Spaced
+pub mod Spaced
 mod Whole
 pub mod Unsaid
 pub mod Arrow

@@ -268,12 +268,12 @@ fn parameters(alloc: Global, cursor: &mut Cursor<'_>) -> Result<Items<Name>, Lin
     Ok(parameters)
 }
 
-/// `profile` names the one profile that has such a line.
+/// `profile` names one of the profiles that have such a line.
 fn read_profile(cursor: &mut Cursor<'_>) -> Result<Phrase, LineRefusal>
     ensures { Reads (phrase_by Keyword.Profile cursor.old) result cursor.new }
 {
-    cursor.number(2, 2)?;
-    Ok(Phrase::Profile)
+    let profile = cursor.bounded(2, 3)?;
+    Ok(Phrase::Profile(profile as u8))
 }
 
 /// The name of a function, and its parameters.

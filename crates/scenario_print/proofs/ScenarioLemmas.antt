@@ -10,17 +10,17 @@ use Rattle.scenario_tree.specs.declared.tree.Scenario.{Scenario}
 use Rattle.scenario_tree.specs.declared.tree.Statement.{Statement}
 use Rattle.scenario_grammar.specs.declared.keyword.Keyword.{Keyword}
 use Rattle.scenario_grammar.specs.declared.phrase.Phrase.TheVariants as phrase
-use Rattle.scenario_grammar.specs.Blocks.{TreeLine, block_within, declaration_lines, function_lines, mark, profile_lines, scenario_lines}
+use Rattle.scenario_grammar.specs.Blocks.{TreeLine, block_within, declaration_lines, function_lines, profile_lines, scenario_lines}
 use Rattle.scenario_grammar.specs.declared.limits.TheConstants.{MOST_LEVELS}
 use Rattle.scenario_grammar.specs.Layout.{Line, lines}
 use Rattle.scenario_grammar.specs.Phrase.{phrase_tokens}
 use Rattle.scenario_grammar.specs.Printed.{printed, printed_if, printed_tree_lines}
 use Rattle.scenario_grammar.specs.Spells.{AreTreeLines, Spells}
-use Rattle.scenario_grammar.specs.Token.{Written, ◌⊕◌, each, only_if}
+use Rattle.scenario_grammar.specs.Token.{Written, ◌⊕◌, each}
 use Rattle.scenario_print.specs.TreeLines.{WroteTreeLine, WroteFixedLine, Laid, WroteBlock, WroteScenario}
 use Rattle.scenario_print.specs.Texts.{has_words, HasText}
 use Rattle.scenario_print.proofs.Each.{each_next}
-use Rattle.scenario_print.proofs.TreeLineLemmas.{end_tree_line, laid, laid_back, laid_none, laid_nothing, laid_line}
+use Rattle.scenario_print.proofs.TreeLineLemmas.{end_tree_line, laid, laid_back, laid_nothing, laid_line}
 use Rattle.scenario_print.proofs.Words.{through}
 
 some_said : {A : Type 0} (w : Option A) (x : A) → w ≡ Some x → is_some w ≡ true
@@ -63,13 +63,9 @@ whole_scenario {o = o} {l = l} {m = m} {n = n} {r = Err y} s ds fs d e a f g = r
 pub first_profile : {T E : Type 0} (o : List ℕ) (r : Result T E) (p : ℕ) → p ≡ 1 → Laid o o r 0 0 (profile_lines p)
 first_profile o r p e = rw e (laid_nothing o r 0)
 
--- any other has one, or has no text
-pub later_profile : {T E : Type 0} {o n : List ℕ} {r : Result T E} (p : ℕ) → (p ≡ 1 → ⊥) → WroteTreeLine o n r 0 phrase.Profile → Laid o n r 0 0 (profile_lines p)
-later_profile {o = o} {n = n} {r = r} p e f = let other : (p == 1) ≡ false = ne_eqb p 1 e in rw other (by (p == 2))
-  where
-    by : (b : Bool) → Laid o n r 0 0 (only_if b (mark phrase.Profile))
-    by true = laid_line None phrase.Profile 0 f
-    by false = laid_none r 0 0 f.front
+-- any other has one
+pub later_profile : {T E : Type 0} {o n : List ℕ} {r : Result T E} (p : ℕ) → (p ≡ 1 → ⊥) → WroteTreeLine o n r 0 (phrase.Profile p) → Laid o n r 0 0 (profile_lines p)
+later_profile p e f = let other : (p == 1) ≡ false = ne_eqb p 1 e in rw other (laid_line None (phrase.Profile p) 0 f)
 
 -- the tree_lines of one part more
 pub next_lines : {A : Type 0} {T E : Type 0} {o m n : List ℕ} {x y : T} (f : A → Written TreeLine) (i : ℕ) (es : List A) (e : A) → i < length es → e ≡ get_or es i e

@@ -24,8 +24,8 @@ pub fn spelt_trees_have_text()
 {}
 
 /// Appends the printed form of a scenario that has a text: its one text with two blanks for each
-/// open block and no line that carries nothing, after `profile 2` where that is its profile. Where
-/// there is no memory for it, nothing is appended.
+/// open block and no line that carries nothing, after the line of its profile where that is not 1.
+/// Where there is no memory for it, nothing is appended.
 pub fn print(s: &Scenario, out: &mut Vec<u8>) -> Result<(), AllocError>
     ensures ok { OnOk result (HasText s.now → out.new.items ≡ out.old.items ++ printed s.now) }
     ensures err { OnErr result (out.new.items ≡ out.old.items) }
@@ -46,14 +46,14 @@ fn push_scenario(s: &Scenario, out: &mut Vec<u8>) -> Result<(), AllocError>
     push_functions(s.functions.as_slice(), out)
 }
 
-/// The line `profile 2`, which a scenario of profile 1 does not have.
+/// The line of the profile, which a scenario of profile 1 does not have.
 fn push_profile(profile: u8, out: &mut Vec<u8>) -> Result<(), AllocError>
     ensures { Laid out.old.items out.new.items result 0 0 (profile_lines profile) }
 {
     if profile == 1 {
         return Ok(());
     }
-    push_profile_line(out)
+    push_profile_line(profile, out)
 }
 
 fn push_declarations(declarations: &[Declaration], out: &mut Vec<u8>) -> Result<(), AllocError>

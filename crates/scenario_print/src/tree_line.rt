@@ -38,11 +38,11 @@ fn push_line_end(out: &mut Vec<u8>) -> Result<(), AllocError>
     out.extend_from_slice(b"\n")
 }
 
-/// The line that names profile 2.
-pub(crate) fn push_profile_line(out: &mut Vec<u8>) -> Result<(), AllocError>
-    ensures { WroteTreeLine out.old.items out.new.items result 0 phrase.Profile }
+/// The line that names the profile.
+pub(crate) fn push_profile_line(profile: u8, out: &mut Vec<u8>) -> Result<(), AllocError>
+    ensures { WroteTreeLine out.old.items out.new.items result 0 (phrase.Profile profile) }
 {
-    start_number(Keyword::Profile, 2, out)?;
+    start_number(Keyword::Profile, u32::from(profile), out)?;
     push_line_end(out)
 }
 

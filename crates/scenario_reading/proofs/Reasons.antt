@@ -1,5 +1,5 @@
 -- What was read and checked: it is spelt, and each refusal has one of the reasons that have a text.
-use Rattle.std.proofs.Common.{◌≡◌, ℕ, true, List, Some, Result, Ok, Err, IfErr, IfOk, sym, subst, arith}
+use Rattle.std.proofs.Common.{◌≡◌, ℕ, Bool, true, false, ◌||◌, List, Some, Result, Ok, Err, IfErr, IfOk, refl, sym, subst}
 use Rattle.scenario_tree.specs.declared.tree.Scenario.{Scenario}
 use Rattle.scenario_grammar.specs.declared.place.Place.{Place}
 use Rattle.scenario_grammar.specs.Parsed.{reading}
@@ -13,10 +13,14 @@ use Rattle.scenario_rules.specs.Rules.{place_of}
 use Rattle.scenario_reading.specs.Judged.{HasReason, IsRefusedWithReason}
 
 text_reason : (p : Place) → is_text_reason p.reason ≡ true → HasReason p
-text_reason p h = grind (arith)
+text_reason p h = rw h refl
 
 rule_reason : (p : Place) → is_rule_reason p.reason ≡ true → HasReason p
-rule_reason p h = grind (arith)
+rule_reason p h = either_way (is_text_reason p.reason)
+  where
+    either_way : (text : Bool) → (text || is_rule_reason p.reason) ≡ true
+    either_way true = refl
+    either_way false = h
 
 pub read_has_reason : ((bytes : List ℕ) (p : Place) → reading bytes ≡ Err p → is_text_reason p.reason ≡ true) → (bytes : List ℕ) (e : ParseRefusal)
     → Parses (reading bytes) (Err e) → IsRefusedWithReason e

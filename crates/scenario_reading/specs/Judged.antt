@@ -1,9 +1,9 @@
 -- What comes of the bytes of a text: its well-formed scenario, or the place where it is refused.
-use Rattle.std.specs.Prelude.{◌≤◌, ℕ, List, Some, None, Ok, Err, Result}
+use Rattle.std.specs.Prelude.{IsTrue, ℕ, List, Some, None, Ok, Err, Result}
 use Rattle.scenario_tree.specs.declared.tree.Scenario.{Scenario}
 use Rattle.scenario_grammar.specs.declared.place.Place.{Place}
 use Rattle.scenario_grammar.specs.Parsed.{reading}
-use Rattle.scenario_grammar.specs.ReasonNumbers.{last_reason}
+use Rattle.scenario_grammar.specs.ReasonNumbers.{is_reason}
 use Rattle.scenario_rules.specs.Rules.{place_of}
 use Rattle.scenario_lang.specs.declared.text.ParseRefusal.{ParseRefusal}
 use Rattle.scenario_lang.specs.declared.text.ParseRefusal.TheVariants as parse
@@ -16,9 +16,9 @@ checked s = elim (place_of s) [ None ↦ Ok s | Some place ↦ Err place ]
 abbrev pub judged_text : List ℕ → Result Scenario Place
 judged_text bytes = elim (reading bytes) [ Ok s ↦ checked s | Err place ↦ Err place ]
 
--- the place has one of the reasons, which are numbered from 1 on
+-- the place has one of the reasons
 abbrev pub HasReason : Place → Type 0
-HasReason place = (1 ≤ place.reason) × (place.reason ≤ last_reason)
+HasReason place = IsTrue (is_reason place.reason)
 
 abbrev pub IsRefusedWithReason : ParseRefusal → Type 0
 IsRefusedWithReason (parse.Refused place) = HasReason place

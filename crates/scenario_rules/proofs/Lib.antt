@@ -1,3 +1,4 @@
+mod Conserved
 pub mod Layers
 mod Rows
 mod RuleReasons

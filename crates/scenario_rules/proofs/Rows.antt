@@ -94,6 +94,12 @@ rows =
     row (codes "cput in a raw body") (codes "profile 2|channel c|rawdef r v|cput c v|end|def main|end|") (at 4 19) ∷
     row (codes "cget in a raw body") (codes "profile 2|channel c|rawdef r v|cget c|end|def main|end|") (at 4 19) ∷
     row (codes "qshut in a raw body") (codes "profile 2|queue q fifo 1|rawdef r v|qshut q|end|def main|end|") (at 4 19) ∷
+    row (codes "queue as an event in profile 3") (codes "profile 3|queue q fifo 1|def main|set q|end|") (at 4 17) ∷
+    row (codes "counter of a queue in profile 3") (codes "profile 3|queue q fifo 1|def main|print counter q|end|") (at 4 17) ∷
+    row (codes "function as a value in profile 3") (codes "profile 3|def w|end|def main|print w|end|") (at 5 17) ∷
+    row (codes "function as an event in profile 3") (codes "profile 3|def w|end|def main|set w|end|") (at 5 17) ∷
+    row (codes "undeclared event in profile 3") (codes "profile 3|def main|set x|end|") (at 3 15) ∷
+    row (codes "object given a value in profile 3") (codes "profile 3|event e|def main|let e 1|end|") (at 4 17) ∷
     row (codes "channel twice") (codes "profile 2|channel c|channel c|def main|end|") (at 3 16) ∷
     []
 

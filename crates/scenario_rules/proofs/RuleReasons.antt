@@ -14,9 +14,9 @@ use Rattle.scenario_rules.specs.declared.mention.Mention.{Mention}
 use Rattle.scenario_rules.specs.declared.mention.Named.{Named}
 use Rattle.scenario_rules.specs.Declarations.{different, given_names, named_functions, named_objects, parameters, repeated}
 use Rattle.scenario_rules.specs.Mention.{mentions}
-use Rattle.scenario_rules.specs.Rules.{IsWellFormed, earlier_place, first_after, function_refusals, is_before, is_hub_in_raw_body, is_too_deep, is_undeclared, is_wrong_count, is_wrong_head, is_wrong_kind, past, place_of, refusals, refused, refused_names, word_refusals}
+use Rattle.scenario_rules.specs.Rules.{IsWellFormed, earlier_place, first_after, function_refusals, is_before, is_hub_in_raw_body, is_too_deep, is_undeclared, is_wrong_count, is_wrong_head, is_wrong_kind, most_functions, most_objects, past, place_of, refusals, refused, refused_names, word_refusals}
 use Rattle.scenario_rules.specs.declared.limits.TheConstants.{MOST_LOCAL_NAMES}
-use Rattle.scenario_tree.specs.declared.limits.TheConstants.{MOST_FUNCTIONS, MOST_OBJECTS, MOST_PARAMETERS}
+use Rattle.scenario_tree.specs.declared.limits.TheConstants.{MOST_PARAMETERS}
 
 -- the place has a reason of the rules
 abbrev is_by_rule : Place → Bool
@@ -80,8 +80,8 @@ all_by_rule : (s : Scenario) → AreByRule (refusals s)
 all_by_rule s =
     both_by_rule _ (flat_map (function_refusals s) s.functions)
     (both_by_rule _ (refused_names rule.DeclaredTwice (repeated (named_objects s ++ named_functions s)))
-    (both_by_rule (refused_names rule.TooMany (past MOST_OBJECTS (named_objects s))) (refused_names rule.TooMany (past MOST_FUNCTIONS (named_functions s)))
-    (names_by_rule rule.TooMany (past MOST_OBJECTS (named_objects s))) (names_by_rule rule.TooMany (past MOST_FUNCTIONS (named_functions s))))
+    (both_by_rule (refused_names rule.TooMany (past (most_objects s.profile) (named_objects s))) (refused_names rule.TooMany (past (most_functions s.profile) (named_functions s)))
+    (names_by_rule rule.TooMany (past (most_objects s.profile) (named_objects s))) (names_by_rule rule.TooMany (past (most_functions s.profile) (named_functions s))))
     (names_by_rule rule.DeclaredTwice (repeated (named_objects s ++ named_functions s))))
     (each_by_rule (function_refusals s) (function_by_rule s) s.functions)
 

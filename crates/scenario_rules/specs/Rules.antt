@@ -5,7 +5,7 @@ use Rattle.std.specs.Option.{is_some}
 use Rattle.gv_values.specs.declared.name.Name.{Name}
 use Rattle.scenario_tree.specs.declared.tree.Function.{Function}
 use Rattle.scenario_tree.specs.declared.tree.Scenario.{Scenario}
-use Rattle.scenario_tree.specs.declared.limits.TheConstants.{MOST_FUNCTIONS, MOST_OBJECTS, MOST_PARAMETERS}
+use Rattle.scenario_tree.specs.declared.limits.TheConstants.{MOST_DECLARED, MOST_FUNCTIONS, MOST_OBJECTS, MOST_PARAMETERS}
 use Rattle.scenario_grammar.specs.declared.place.Place.{Place}
 use Rattle.scenario_grammar.specs.declared.reason.RuleReason.{RuleReason}
 use Rattle.scenario_grammar.specs.declared.reason.RuleReason.TheVariants as rule
@@ -68,6 +68,14 @@ refused_names reason names = map (λ (n : Named). record { line = n.line; reason
 abbrev pub past : ℕ → List Named → List Named
 past most names = elim (slice_get names most) [ None ↦ [] | Some n ↦ n ∷ [] ]
 
+-- the most objects of a scenario of this profile
+abbrev pub most_objects : ℕ → ℕ
+most_objects profile = if nat_lt profile 3 then MOST_OBJECTS else MOST_DECLARED
+
+-- the most functions of a scenario of this profile
+abbrev pub most_functions : ℕ → ℕ
+most_functions profile = if nat_lt profile 3 then MOST_FUNCTIONS else MOST_DECLARED
+
 -- what a word of a function breaks
 abbrev pub word_refusals : Scenario → Function → Mention → List Place
 word_refusals s f m =
@@ -94,8 +102,8 @@ function_refusals s f =
 -- the lines that break a rule: too many objects or functions, two of one name, or one in a function
 abbrev pub refusals : Scenario → List Place
 refusals s =
-    refused_names rule.TooMany (past MOST_OBJECTS (named_objects s))
-    ++ refused_names rule.TooMany (past MOST_FUNCTIONS (named_functions s))
+    refused_names rule.TooMany (past (most_objects s.profile) (named_objects s))
+    ++ refused_names rule.TooMany (past (most_functions s.profile) (named_functions s))
     ++ refused_names rule.DeclaredTwice (repeated (named_objects s ++ named_functions s))
     ++ flat_map (function_refusals s) s.functions
 

@@ -9,6 +9,8 @@ mod limits;
 mod mention;
 
 pub use declared::Declared;
-pub use laws::{rules_have_reasons, well_formed_scenarios_have_no_place};
+pub use laws::{
+    rules_have_reasons, well_formed_scenarios_are_of_profile_3, well_formed_scenarios_have_no_place,
+};
 pub use limits::{MOST_LOCAL_NAMES, MOST_TIMEOUTS};
 pub use mention::{Mention, Named, Says, Wanted};

@@ -7,7 +7,7 @@
 mod limits;
 mod tree;
 
-pub use limits::{MOST_FUNCTIONS, MOST_OBJECTS, MOST_PARAMETERS};
+pub use limits::{MOST_DECLARED, MOST_FUNCTIONS, MOST_OBJECTS, MOST_PARAMETERS};
 pub use sqlite_items::{Boxed, Items};
 pub use tree::{
     Action, Binary, Block, Command, Declaration, Except, Expression, Function, Giving, LinkEnd,

@@ -222,7 +222,7 @@ pub struct Function {
     pub body: Block,
 }
 
-/// A scenario: its profile, 1 or 2 where it has a text, its objects, and its functions, in the order
+/// A scenario: its profile, 1, 2 or 3 where it has a text, its objects, and its functions, in the order
 /// in which they are declared.
 #[derive(Drop)]
 pub struct Scenario {

@@ -15,6 +15,11 @@ pub(crate) const ROOM: usize = 1048576;
 /// How many bytes the input gives at a time.
 const PIECE: usize = 4096;
 
+/// The lines that name a profile.
+const PROFILE_2: &[u8] = b"profile 2\n";
+
+const PROFILE_3: &[u8] = b"profile 3\n";
+
 /// How many it gives where its reads fail in turn.
 pub(crate) const SMALL_PIECE: usize = 7;
 
@@ -99,6 +104,29 @@ fn line_count(bytes: &[u8]) -> usize {
         }
     }
     count
+}
+
+/// Where the line `profile 2` begins.
+fn profile_line(text: &[u8]) -> Option<usize> {
+    for at in 0..text.len() {
+        if text[at..].starts_with(PROFILE_2) {
+            return Some(at);
+        }
+    }
+    None
+}
+
+/// The text with `profile 3` as its first line, and without the line `profile 2`.
+fn in_profile_3(alloc: Global, text: &[u8]) -> Result<Vec<u8>, AllocError> {
+    let mut made = Vec::from_slice(alloc, PROFILE_3)?;
+    match profile_line(text) {
+        Some(at) => {
+            made.extend_from_slice(&text[..at])?;
+            made.extend_from_slice(text[at..].strip_prefix(PROFILE_2).unwrap_or(&[]))?;
+        }
+        None => made.extend_from_slice(text)?,
+    }
+    Ok(made)
 }
 
 impl Row {
@@ -254,12 +282,33 @@ impl Row {
     }
 
     /// The name of the row, where the call says anything else than the row has, in any way in which it is run, or where
-    /// its trace has a line that no trace has.
+    /// its trace has a line that no trace has. A text that runs is run as one of profile 3 too, but for the longest.
     pub(crate) fn differs(self, alloc: Global) -> Result<Option<String>, AllocError> {
         let holds = (self.is_read || !self.is_command("run"))
             && self.holds(alloc)?
             && (!self.has_faults || holds_with_faults(alloc, &self)?)
             && (!self.has_ends || holds_at_each_end(alloc, &self)?);
-        Ok(if holds { None } else { Some(self.name) })
+        if !self.runs_in_profile_3() {
+            return Ok(if holds { None } else { Some(self.name) });
+        }
+        let later = self.in_profile_3(alloc)?;
+        let holds = holds && later.holds(alloc)?;
+        Ok(if holds { None } else { Some(later.name) })
+    }
+
+    /// Whether the row is run as one of profile 3 too.
+    fn runs_in_profile_3(&self) -> bool {
+        self.is_command("run")
+            && self.status != Some(3)
+            && self.lines.is_none()
+            && !self.text.as_slice().starts_with(PROFILE_3)
+    }
+
+    /// The row with its text as one of profile 3.
+    fn in_profile_3(self, alloc: Global) -> Result<Row, AllocError> {
+        let text = in_profile_3(alloc, self.text.as_slice())?;
+        let mut row = self;
+        row.text = text;
+        Ok(row)
     }
 }

@@ -9,7 +9,7 @@ from typing import Optional
 from .program import READ_FAULT, Answer
 
 # One byte more than any command reads: it is enough for the program to refuse the text.
-MOST_TEXT, MOST_CHECKED = 1048576 + 1, 67108864 + 1
+MOST_TEXT, MOST_CHECKED = 16777216 + 1, 67108864 + 1
 
 
 # `./gvr` opens the standard input for writing where it is a folder, over which Python does not start.

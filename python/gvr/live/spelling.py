@@ -11,7 +11,9 @@ from .handles import IN_A_LIST
 from .record import Block, Bodies, Body, Node, Place, Record, Statement
 from .values import Legend
 
-MOST_TEXT, SHORTEST = 1048576, 12                # bytes of a scenario, and of what most statements have at least
+MOST_OBJECTS = 256                               # of a scenario of profile 1 or 2
+MOST_TEXT, SHORTEST = 1048576, 12                # bytes of such a one, and of what most statements have at least
+MOST_LONG_TEXT = 16777216                        # bytes of a scenario of profile 3
 HANDLE = re.compile(r'\Ag([0-9]+)\Z')
 
 
@@ -24,15 +26,20 @@ class Spelt(NamedTuple):
     def text(self) -> str:
         return '\n'.join(self.lines) + '\n'
 
+    @property
+    def fits(self) -> bool:
+        """It is no longer than its profile lets it be."""
+        return len(self.text) <= (MOST_LONG_TEXT if 'profile 3' in self.lines else MOST_TEXT)
+
 
 def spell(record: Record, legend: Legend = (), marks: bool = False, telling: bool = False) -> Spelt:
     """The scenario that a record is; folded where it is too long, and without its legend where it is still so."""
     if marks or record.statements() * SHORTEST <= MOST_TEXT:
         spelt = _Speller(record, marks, telling, False).whole(legend)
-        if marks or len(spelt.text) <= MOST_TEXT:
+        if marks or spelt.fits:
             return spelt
     folded = _Speller(record, marks, telling, True).whole(legend)
-    return folded if len(folded.text) <= MOST_TEXT else _Speller(record, marks, telling, True).whole(())
+    return folded if folded.fits else _Speller(record, marks, telling, True).whole(())
 
 
 class _Speller:
@@ -53,13 +60,13 @@ class _Speller:
     def whole(self, legend: Legend) -> Spelt:
         for word, value in legend:
             self.say('# %s stands for %s' % (word, value))
-        if self.record.profile == 2:
-            self.say('profile 2')
+        above = len(self.lines)
         for declaration in self.record.declarations:
             self.place = declaration.place
             self.say(declaration.text)
         self.place = None
         self.results()
+        self.profile(above, len(self.lines) - above)
         for function in self.record.functions:
             if isinstance(function, Bodies):
                 self.several(function)
@@ -68,6 +75,13 @@ class _Speller:
                 self.function('%s %s %s' % (word, function.name, function.parameter or ''), function)
         self.function('def main', self.record.main)
         return Spelt(self.lines, self.places)
+
+    def profile(self, above: int, objects: int) -> None:
+        """The line of the least profile that has so many objects, above them."""
+        profile = self.record.profile if objects <= MOST_OBJECTS else 3
+        if profile > 1:
+            self.lines.insert(above, 'profile %d' % profile)
+            self.places.insert(above, None)
 
     def results(self) -> None:
         """Those through which handles go."""

@@ -7,7 +7,7 @@ from .indexed import IndexedMachine
 from .items import Line
 from .printer import printed
 from .run import Options, read, world_of
-from .syntax import MOST_TEXT
+from .syntax import MOST_LONG_TEXT
 from .tree import Scenario
 from .verify import Verdict, check_laws, verify
 from .words import Refusal, Refused
@@ -97,7 +97,8 @@ def call(words: Sequence[str], given: BinaryIO, out: BinaryIO) -> Tuple[int, str
     if found is None:
         return 2, USAGE
     try:
-        data = b"" if found.name == "storm" else read_limited(given, MOST_CHECKED if found.name == "verify" else MOST_TEXT)
+        most = MOST_CHECKED if found.name == "verify" else MOST_LONG_TEXT
+        data = b"" if found.name == "storm" else read_limited(given, most)
     except OSError:
         return 4, "read fault"
     try:

@@ -1,6 +1,6 @@
 """Texts of scenarios, made by chance: the same number gives the same text.
 
-wild(seed) makes a scenario of any statements on any operands, right or wrong, in profile 2. mutated(text, chance) makes
+wild(seed) makes a scenario of any statements on any operands, right or wrong, in profile 2 or 3. mutated(text, chance) makes
 one or a few changes of a text, of which most are refused.
 """
 import random
@@ -150,7 +150,7 @@ class Wild:
 
     def scenario(self) -> str:
         """The whole text."""
-        lines = ["profile 2", *WILD_OBJECTS]
+        lines = [self.chance.choice(("profile 2", "profile 3")), *WILD_OBJECTS]
         for head in ("rawdef rw m0", "def w0", "def w1 m0", "def main"):
             names = [f"let {name} {self.chance.choice(('0', '1', 'self', 'none', 'list 0'))}" for name in NAMES]
             starts = ["x <- spawn w0", "y <- spawn w1 2", "h <- new w0"] if head == "def main" else []
@@ -174,7 +174,8 @@ ODD_NUMBERS = ("-1", "-0", "00", "05", "1e3", "65", "257", "10001", "1000001", "
                "-9223372036854775809", "99999999999999999999999")
 # Lines that may come in, some of them past a limit.
 COMING = (
-    ["end"], ["else"], ["finally"], ["except any f"], ["profile 2"], [""], ["  # x"], ["event e2"], ["event e"], ["sem main 1"],
+    ["end"], ["else"], ["finally"], ["except any f"], ["profile 2"], ["profile 3"], [""], ["  # x"], ["event e2"],
+    ["event e"], ["sem main 1"],
     ["def w0", "end"], ["def main x", "end"], ["rawdef r9 a b", "end"], ["rawdef r9 a", "sleep 5", "end"],
     ["def w9 a a", "end"], ["timeout 5"] * 9 + ["end"] * 9, ["timeout 5"] * 8 + ["end"] * 8, ["if true"] * 31 + ["end"] * 31,
     ["if true"] * 33 + ["end"] * 33, [f"let a{n} 1" for n in range(66)], [f"event a{n}" for n in range(258)],

@@ -88,7 +88,7 @@ def body_lines(body: List[Statement], indent: str) -> Iterator[str]:
 
 def printed(scenario: Scenario) -> str:
     """The printed form."""
-    lines = ["profile 2"] if scenario.profile == 2 else []
+    lines = [] if scenario.profile == 1 else [f"profile {scenario.profile}"]
     lines += [declaration_text(d) for d in scenario.objects]
     for function in scenario.functions:
         word = "rawdef" if function.raw else "def"

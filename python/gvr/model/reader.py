@@ -1,8 +1,8 @@
 """Reads a text, line by line: LANGUAGE, "Text", and the reasons 1 to 14 and 21 of EXPLAIN."""
 from typing import Callable, Dict, List, Set, Union
 
-from .syntax import (BLOCKS, DECLARATIONS, GIVES, JOBS, MOST_LEVELS, MOST_MARK, MOST_TEXT, NUMBERED, ORDERS, PROFILE_2,
-                     SHAPES)
+from .syntax import (BLOCKS, DECLARATIONS, GIVES, JOBS, MOST_LEVELS, MOST_LONG_TEXT, MOST_MARK, MOST_TEXT, NUMBERED,
+                     ORDERS, PROFILE_2, SHAPES)
 from .tree import Declaration, Except, Expression, Function, Scenario, Statement
 from .values import CLASSES
 from .words import Refusal, Refused, Words, is_name
@@ -148,10 +148,9 @@ class Reader:
         if len(words.words) > 1 and words.words[1] == "<-":
             return self.giving(words)
         word = words.take("")
-        two = self.scenario.profile == 2
         if word == "profile":
             self.profile(words, is_first)
-        elif word in PROFILE_2 and not two:
+        elif word in PROFILE_2 and self.scenario.profile == 1:
             words.refuse(5, "a word of profile 1", 0)
         elif word in DECLARATIONS:
             if self.open or self.scenario.functions:
@@ -176,9 +175,9 @@ class Reader:
     def profile(self, words: Words, is_first: bool) -> None:
         if not is_first:
             words.refuse(13, "the first line of the text", 0)
-        words.number(2, 2)
+        named = words.number(2, 3)
         words.end()
-        self.scenario.profile = 2
+        self.scenario.profile = named
 
     def define(self, words: Words, word: str) -> None:
         made = Function(words.name("the name of the function"), word == "rawdef", [], words.line)
@@ -293,10 +292,21 @@ def middle(words: Words, word: str, made: Statement) -> List[Statement]:
     return body
 
 
+def says_long(data: bytes) -> bool:
+    """Whether a text that begins so may be long: its first line that carries something is `profile 3`."""
+    for line in data.split(b"\n")[:-1]:
+        said = line.lstrip(b" ")
+        if said and not said.startswith(b"#"):
+            return said == b"profile 3"
+    return False
+
+
 def byte_refusals(data: bytes) -> List[Refusal]:
     """What is wrong with the bytes of the text; the first is the one that is told."""
-    if len(data) > MOST_TEXT:
-        return [Refusal(data[:MOST_TEXT].count(b"\n") + 1, 1)]
+    is_long = says_long(data[:MOST_TEXT])
+    most = MOST_LONG_TEXT if is_long else MOST_TEXT
+    if len(data) > most:
+        return [Refusal(data[:most].count(b"\n") + 1, 26 if is_long else 1)]
     found = []
     for number, line in enumerate(data.split(b"\n"), 1):
         if not (line.isascii() and line.decode("ascii").isprintable()):
@@ -323,7 +333,7 @@ def read_text(data: bytes, all_refusals: bool = False) -> Reader:
 
 
 def read_statement(text: str) -> Statement:
-    """One statement, as it stands in a body of profile 2; of a block its head. Names are not checked."""
+    """One statement, as it stands in a body of profile 2 or 3; of a block its head. Names are not checked."""
     words = Words(1, text)
     if len(words.words) > 1 and words.words[1] == "<-":
         return read_shape(words, giving_head(words, 2))
@@ -334,7 +344,7 @@ def read_statement(text: str) -> Statement:
 
 
 def read_declaration(text: str) -> Declaration:
-    """One declaration, of profile 2."""
+    """One declaration, of profile 2 or 3."""
     words = Words(1, text)
     word = words.one_of(DECLARATIONS, "a declaration")
     return declaration(words, word)

@@ -63,9 +63,11 @@ QUERIES: Dict[str, Tuple[str, ...]] = {
 BINARY = ("+", "-", "*", "/", "%", "==", "!=", "<", "<=", "and", "or", "push", "at")
 UNARY = ("not", "len", "ready", "successful", "value", "exception")
 
-MOST_TEXT, MOST_MS, MOST_MARK, MOST_ELEMENTS = 1048576, 1000000000, 1000000, 64
+MOST_TEXT, MOST_LONG_TEXT = 1048576, 16777216    # bytes: of profiles 1 and 2, and of 3
+MOST_MS, MOST_MARK, MOST_ELEMENTS = 1000000000, 1000000, 64
 MOST_LEVELS = MOST_NESTED = 32
-MOST_OBJECTS = MOST_FUNCTIONS = 256
+MOST_OBJECTS = MOST_FUNCTIONS = 256              # of profiles 1 and 2
+MOST_DECLARED = 20000                            # objects, and functions, of profile 3
 MOST_PARAMETERS, MOST_LOCAL_NAMES, MOST_TIMEOUTS = 16, 64, 8
 
 # Words that are no names.
@@ -87,4 +89,4 @@ REASONS: Dict[int, str] = {
     15: "undeclared name", 16: "name declared twice", 17: "wrong kind of name",
     18: "wrong count of parameters or arguments", 19: "hub statement in a raw body",
     20: "timeout blocks nested past 8", 21: "nesting past 32", 22: "too many declarations",
-    24: "no line of four equals signs", 25: "input longer than 67108864 bytes"}
+    24: "no line of four equals signs", 25: "input longer than 67108864 bytes", 26: "text longer than 16777216 bytes"}

@@ -62,12 +62,14 @@ class Certificate(unittest.TestCase):
             made = [event.Event() for _ in range(300)]
             made[299].set()
         session = run(main)
-        with self.assertRaises(Refused) as raised:
+        certify(session, by_model())
+        self.assertEqual(session.spelt().lines[:2], ['profile 3', 'event made'])
+        with mock.patch('gvr.model.check.MOST_DECLARED', 280), self.assertRaises(Refused) as raised:
             certify(session, by_model())
         told = limit(session.spelt(), raised.exception)
         self.assertTrue(told.startswith('the record is past a limit of the language: '), told)
-        # The record has no line before its declarations: the 257th of them is line 257.
-        self.assertIn('line 257 of it: event made_257, at test_certificate.py:', told)
+        # The record has one line before its declarations: the 281st of them is line 282.
+        self.assertIn('line 282 of it: event made_281, at test_certificate.py:', told)
 
     def test_past_a_limit_of_the_machine(self) -> None:
         def main() -> None:

@@ -96,5 +96,37 @@ class Tree(unittest.TestCase):
                     self.assertEqual(model.statement_text(model.read_statement(line)), line)
 
 
+class Limits(unittest.TestCase):
+    """Line and reason of texts at both sides of each limit that the profile moves."""
+
+    def assert_refused(self, text: str, line: int, reason: int) -> None:
+        first = next(iter(model.refusals(text.encode())), None)
+        self.assertEqual(first and (first.line, first.reason), (line, reason))
+
+    def assert_taken(self, text: str) -> None:
+        self.assertEqual(model.refusals(text.encode()), [])
+
+    def test_bytes(self) -> None:
+        text = "profile 3\ndef main\nend\n#"
+        self.assert_taken(text + "x" * (16777215 - len(text)) + "\n")
+        self.assert_refused(text + "x" * (16777216 - len(text)) + "\n", 4, 26)
+        self.assert_refused(text.replace("3", "2") + "x" * 1048576 + "\n", 4, 1)
+
+    def test_where_the_profile_stands(self) -> None:
+        behind = "\nprofile 3\ndef main\nend\n"
+        self.assert_taken("#" + "x" * 1048564 + behind)
+        self.assert_refused("#" + "x" * 1048565 + behind, 2, 1)
+
+    def test_declarations(self) -> None:
+        for profile, most in ((2, 256), (3, 20000)):
+            events = "".join(f"event e{n}\n" for n in range(most + 1))
+            functions = "".join(f"def f{n}\nend\n" for n in range(most))
+            main = "def main\nend\n"
+            most_events, most_functions = events[:events.rindex("event")], functions[:functions.rindex("def")]
+            self.assert_taken(f"profile {profile}\n{most_events}{most_functions}{main}")
+            self.assert_refused(f"profile {profile}\n{events}{main}", most + 2, 22)
+            self.assert_refused(f"profile {profile}\n{functions}{main}", 2 * most + 2, 22)
+
+
 if __name__ == "__main__":
     unittest.main()

@@ -114,7 +114,7 @@ class Explain(unittest.TestCase):
     def test_each_reason(self) -> None:
         table = EXPLAIN.partition("| Reason | Line |")[2].partition("\n\n")[0].splitlines()[2:]
         told = [[cell.strip(" `") for cell in re.split(r"(?<!\\)\|", row)[1:-1]] for row in table]
-        self.assertEqual([int(said.split()[0]) for said, *_ in told], list(range(1, 23)))
+        self.assertEqual([int(said.split()[0]) for said, *_ in told], [*range(1, 23), 26])
         for said, line, refused, _, mended in told:
             number = said.split()[0]
             with self.subTest(reason=number):

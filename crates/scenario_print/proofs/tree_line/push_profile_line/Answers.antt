@@ -6,4 +6,4 @@ use Rattle.scenario_print.proofs.tree_line.push_profile_line.Goals as goal
 
 pub returns : goal.returns
 unfolding phrase_tokens
-returns c = outer_line phrase.Profile (line (c.in_ok-start_number.ensures.words 2 2)) c.push_line_end.ensures
+returns c = rw (← c.from.ensures) (outer_line (phrase.Profile c.from.result) (line (c.in_ok-start_number.ensures.words 2 3)) c.push_line_end.ensures)
