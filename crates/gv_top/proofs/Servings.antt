@@ -17,9 +17,10 @@ use Rattle.world.specs.Outside.{WorldMeaning as World}
 use Rattle.world_rules.specs.declared.question.LogEntry.{LogEntry}
 use Rattle.stream_net.specs.Net.{Connection, IsAtRest, IsFresh, NetMeaning}
 use Rattle.stream_server.specs.declared.limits.Limits.{Limits}
+use Rattle.stream_server.specs.Owning.{Owner}
 use Rattle.stream_server.specs.Ranges.{IsInRange}
 use Rattle.stream_server.specs.Serving.{Rests}
-use Rattle.wsgi_native.specs.Agreeing.{Agrees, HasEarned, Owner}
+use Rattle.wsgi_native.specs.Agreeing.{Agrees, HasEarned}
 use Rattle.wsgi_native.specs.Ends.{IsAtJob, IsOutOfJobs}
 use Rattle.wsgi_native.specs.JobApp.{job_app}
 use Rattle.wsgi_native.specs.Tied.{HasPosted, IsInOrder}
@@ -169,7 +170,7 @@ agrees_after : (owner : Owner) (v : World) (conn : ℕ) (app : App) → Agrees o
 agrees_after owner v conn app a = record { plain = a.plain; done = a.done }
 
 earned_after : (port : ℕ) (cs : List Connection) (v : World) → HasEarned port cs v → HasEarned port cs (stopped v)
-earned_after port cs v h = record { owner = h.owner; own = λ k app bytes out agrees. h.own k app bytes out (agrees_before h.owner v k app agrees) }
+earned_after port cs v h = record { owner = h.owner; once = h.once; own = λ k app bytes out agrees. h.own k app bytes out (agrees_before h.owner v k app agrees) }
 
 at_job_after : (owner : Owner) (port : ℕ) (v : World) (conn : ℕ) (bytes out : List ℕ) → IsAtJob owner port v conn bytes out → IsAtJob owner port (stopped v) conn bytes out
 at_job_after owner port v conn bytes out h = record {

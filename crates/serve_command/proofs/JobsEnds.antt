@@ -26,10 +26,11 @@ closed_at_rest cs closed = closed_rest (λ (c : Connection). c.held ≡ false �
 none_asks : (port : ℕ) (w : NetMeaning) (workers : World) (P : Type 0) → w.connections ≡ [] → IsOutOfJobs port w workers → P
 none_asks port w workers P none vain = absurd (let e = ap (λ (xs : List Connection). length xs) none in let within = vain.accepted in omega (arith, within, e))
 
--- and nothing had to be earned
+-- and nothing had to be earned, whoever owns the jobs
 none_earned : (port : ℕ) (cs : List Connection) (workers : World) → cs ≡ [] → HasEarned port cs workers
 none_earned port cs workers none = record {
-  owner = λ _. (0, 0);
+  owner = λ number. (number, 0);
+  once = λ a b x y e. ap (λ (one : ℕ × ℕ). one.0) e;
   own = λ k app bytes out agrees in' reads writes. no_connection cs (λ c read sent. BeginsSo (session app port read c.ended).bytes sent) none k bytes out in' reads writes;
 }
 

@@ -1,6 +1,7 @@
 -- A server from event to event, by its service and its table.
 use Rattle.std.proofs.Common.{◌≡◌, ◌⊎◌, inl, inr, ℕ, ◌+◌, ◌<◌, ◌≤◌, ◌==◌, min, Bool, true, false, List, [], ◌∷◌, ◌++◌, length, Option, Some, None, Result, Err, IsSome, refl, sym, ap, ◌∙◌, subst, arith}
 use Rattle.std.specs.List.{All}
+use Rattle.std.proofs.Math.Nat.{le_trans}
 use Rattle.std.proofs.lemmas.Bool.Decides.{nat_tests}
 use Rattle.wsgi_core.specs.Applications.{App}
 use Rattle.item_places.specs.Items.{without_number}
@@ -15,7 +16,7 @@ use Rattle.stream_server.specs.declared.limits.Terms.{Terms}
 use Rattle.stream_server.specs.declared.rounds.RoundFault.{RoundFault}
 use Rattle.stream_server.specs.Protocols.{Apps, IsLawful, Protocol, side_of}
 use Rattle.stream_server.specs.Running.{IsRunning, IsRunningBut, IsUnderWay, LeftBy, WasRunning}
-use Rattle.stream_server.specs.Services.{AreBeside, IsHeldFrom, IsReleased}
+use Rattle.stream_server.specs.Services.{AreBeside, HasRankFrom, IsHeldFrom, IsReleased, TiesFrom}
 use Rattle.stream_server.specs.Keeping.{HasAccepted, IsServing, IsServingBut, IsStill}
 use Rattle.stream_server.specs.Steps.{Free, IsCalm, IsCut, IsGoing, IsOpen, IsOver, IsResting, OnlyAt}
 use Rattle.stream_server.specs.Tables.{AreAdmitted, AreAdmittedBut, IsListed, Relists, SeenTable, client_count, with_members}
@@ -48,6 +49,26 @@ module _ {T : Type 0} where
   -- the members of a table are nothing to its list
   pub list_kept : (table now : SeenTable T) (members : List ℕ) → now ≡ with_members members table → (k : ℕ) (slot : Option (Client T)) → IsListed now k slot → IsListed table k slot
   list_kept table now members is k slot row = subst (λ (t : SeenTable T). IsListed t k slot) is row
+
+  -- ---- the rank of a client that is listed again
+
+  -- it may be a higher one
+  pub ties_more : (B : SeenTable T → ℕ → ℕ → ℕ → Type 0) (less more : ℕ) (table : SeenTable T) (n k : ℕ) → less ≤ more → TiesFrom B less table n k → TiesFrom B more table n k
+  ties_more B less more table n k rises ties = (ties.0, le_trans ties.1 rises, ties.2)
+
+  -- this client alone is listed, and has such a rank
+  pub ranked_alone : (rank : T → ℕ) (low : ℕ) (table now : SeenTable T) (k : ℕ) (g : Client T) → g.conn ≡ k → low ≤ rank g.talk → Relists table now g.conn (Some g) → HasRankFrom rank low now k
+  ranked_alone rank low table now k g same from relists h row = subst (λ (x : Client T). low ≤ rank x.talk) (sym (client_is h g (at_own now k g.conn (Some g) same relists.only (Some h) row))) from
+    where
+      client_is : (h g : Client T) → ◌≡◌ {A = Option (Client T)} (Some h) (Some g) → h ≡ g
+      client_is h g e = cc
+
+  -- none is listed
+  pub ranked_none : (rank : T → ℕ) (low : ℕ) (table now : SeenTable T) (members : List ℕ) (k : ℕ) → now ≡ with_members members table → ((s : Option (Client T)) → IsListed table k s → s ≡ None) → HasRankFrom rank low now k
+  ranked_none rank low table now members k is only h row = absurd (some_none h (only (Some h) (list_kept table now members is k (Some h) row)))
+    where
+      some_none : (h : Client T) → ◌≡◌ {A = Option (Client T)} (Some h) None → ⊥
+      some_none h e = cc
 
   -- the same client is held alike
   pub same_holds : (holds : T → Bool) (g h : Client T) → ◌≡◌ {A = Option (Client T)} (Some h) (Some g) → holds g.talk ≡ holds h.talk
@@ -100,6 +121,10 @@ module _ {T : Type 0} (P : Protocol T) (law : (app : App) (port : ℕ) → IsLaw
         tied = subst (λ (n : ℕ). B table n k) (sym (only_length u v k only)) h.tied;
         admitted = subst (λ (n : ℕ). AreAdmittedBut table n k) (sym (only_length u v k only)) h.admitted;
       }
+
+  -- its rank rose
+  pub but_rises : (F : Apps → Type 0) (B : SeenTable T → ℕ → ℕ → ℕ → Type 0) (less more : ℕ) (m : NetMeaning) (table : SeenTable T) (k : ℕ) → less ≤ more → IsRunningBut P F (TiesFrom B less) terms m table k → IsRunningBut P F (TiesFrom B more) terms m table k
+  but_rises F B less more m table k rises h = record { serving = h.serving; tied = ties_more B less more table (length m.connections) k rises h.tied; admitted = h.admitted }
 
   -- its connection rests
   pub running_waits : (F : Apps → Type 0) (A : SeenTable T → ℕ → Type 0) (B : SeenTable T → ℕ → ℕ → Type 0) (u v : NetMeaning) (table now : SeenTable T) (k : ℕ) (g : Client T) → IsRunningBut P F B terms u table k → IsLive u k → OnlyAt u v k

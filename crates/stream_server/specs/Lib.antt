@@ -1,6 +1,7 @@
 pub mod Answering
 pub mod Keeping
 pub mod Members
+pub mod Owning
 pub mod Protocols
 pub mod Ranges
 pub mod Running

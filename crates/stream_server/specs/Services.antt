@@ -60,11 +60,19 @@ BeginsAgain (Released client) deadline = deadline ≤ client.deadline
 BeginsAgain Memory deadline = Unit {0}
 
 -- what ties the service to its table after a poll
-abbrev pub TiesAfter : {T : Type 0} → Polled T → Type 0 → (ℕ → Type 0) → Type 0
+abbrev pub TiesAfter : {T : Type 0} → Polled T → Type 0 → (Client T → Type 0) → Type 0
 TiesAfter Nobody whole but = whole
-TiesAfter (Released client) whole but = but client.conn
+TiesAfter (Released client) whole but = but client
 TiesAfter Memory whole but = Unit {0}
 
 -- under each number but this one stands what stood there
 abbrev pub AreBeside : {T : Type 0} → SeenTable T → SeenTable T → ℕ → Type 0
 AreBeside {T} old new k = (j : ℕ) (slot : Option (Client T)) → j ≢ k → IsListed new j slot → IsListed old j slot
+
+-- where a client is listed under this number, its talk has such a rank at least
+abbrev pub HasRankFrom : {T : Type 0} → (T → ℕ) → ℕ → SeenTable T → ℕ → Type 0
+HasRankFrom {T} rank low table k = (client : Client T) → IsListed table k (Some client) → low ≤ rank client.talk
+
+-- a client of this number may be listed again with such a rank
+abbrev pub TiesFrom : {T : Type 0} → (SeenTable T → ℕ → ℕ → ℕ → Type 0) → ℕ → SeenTable T → ℕ → ℕ → Type 0
+TiesFrom ties rank table accepted k = (low : ℕ) × (low ≤ rank) × ties table accepted k low

@@ -30,13 +30,15 @@ impl<'a, T: Talk + Drop, A: Application> Service<T, ()> for Answering<'a, A> {
 
     ghost protocol = { answering T.answers T.is_at T.due };
 
+    ghost rank = { λ talk. 0 };
+
     ghost fits = { λ service world apps. (conn : ℕ) → apps conn ≡ A.answer_of service.app.now };
 
     ghost one = { λ service world conn. A.answer_of service.app.now };
 
     ghost tied = { λ service world table accepted. Unit {0} };
 
-    ghost tied_but = { λ service world table accepted conn. Unit {0} };
+    ghost tied_but = { λ service world table accepted conn low. Unit {0} };
 
     ghost sound = { λ service world. Unit {0} };
 
@@ -107,7 +109,7 @@ impl<'a, T: Talk + Drop, A: Application> Service<T, ()> for Answering<'a, A> {
 
     ghost tied_new = { λ service world table now accepted tied same. tt };
 
-    ghost tied_again = { λ service world table now accepted conn tied beside. tt };
+    ghost tied_again = { λ service world table now accepted conn low tied beside rises. tt };
 
     ghost tied_out = { λ service world table now accepted conn client tied listed free beside. tt };
 }

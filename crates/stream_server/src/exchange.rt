@@ -1,5 +1,5 @@
 //! What goes over one connection.
-ghost use Rattle.std.specs.Prelude.{◌≡◌, ◌<◌, false, [], length};
+ghost use Rattle.std.specs.Prelude.{◌≡◌, ◌≢◌, ◌<◌, ◌≤◌, false, [], length};
 ghost use Rattle.stream_net.specs.Net.{IsLive, connection_at};
 ghost use Rattle.stream_server.specs.Steps.{OnlyAt, StepLeaves};
 
@@ -37,6 +37,7 @@ fn send<T: Drop, W, V: Service<T, W>, N: Net>(
     ensures only { OnlyAt (N.meaning net.old) (N.meaning net.new) client.old.conn }
     ensures same { client.new.conn ≡ client.old.conn }
     ensures holds { V.protocol.holds client.new.talk ≡ V.protocol.holds client.old.talk }
+    ensures rises { result ≢ Step.Memory → V.rank client.old.talk ≤ V.rank client.new.talk }
     ensures leaves { StepLeaves V.protocol V.fits service.now result idle (connection_at (N.meaning net.old).connections client.old.conn) client.old (connection_at (N.meaning net.new).connections client.old.conn) client.new }
     ensures asks_not { result ≡ Step.Asks → ⊥ }
 {
@@ -66,6 +67,7 @@ fn receive<T: Drop, W, V: Service<T, W>, N: Net>(
     ensures only { OnlyAt (N.meaning net.old) (N.meaning net.new) client.old.conn }
     ensures same { client.new.conn ≡ client.old.conn }
     ensures holds { V.protocol.holds client.new.talk ≡ V.protocol.holds client.old.talk }
+    ensures rises { result ≢ Step.Memory → V.rank client.old.talk ≤ V.rank client.new.talk }
     ensures leaves { StepLeaves V.protocol V.fits service.now result idle (connection_at (N.meaning net.old).connections client.old.conn) client.old (connection_at (N.meaning net.new).connections client.old.conn) client.new }
     ensures asks_not { result ≡ Step.Asks → ⊥ }
 {
@@ -101,6 +103,7 @@ fn listen_on<T: Drop, W, V: Service<T, W>, N: Net>(
     ensures only { OnlyAt (N.meaning net.old) (N.meaning net.new) client.old.conn }
     ensures same { client.new.conn ≡ client.old.conn }
     ensures holds { V.protocol.holds client.new.talk ≡ V.protocol.holds client.old.talk }
+    ensures rises { result ≢ Step.Memory → V.rank client.old.talk ≤ V.rank client.new.talk }
     ensures leaves { StepLeaves V.protocol V.fits service.now result idle (connection_at (N.meaning net.old).connections client.old.conn) client.old (connection_at (N.meaning net.new).connections client.old.conn) client.new }
     ensures asks_not { result ≡ Step.Asks → ⊥ }
 {
@@ -124,6 +127,7 @@ fn advance<T: Drop, W, V: Service<T, W>, N: Net>(
     ensures only { OnlyAt (N.meaning net.old) (N.meaning net.new) client.old.conn }
     ensures same { client.new.conn ≡ client.old.conn }
     ensures holds { V.protocol.holds client.new.talk ≡ V.protocol.holds client.old.talk }
+    ensures rises { result ≢ Step.Memory → V.rank client.old.talk ≤ V.rank client.new.talk }
     ensures leaves { StepLeaves V.protocol V.fits service.now result idle (connection_at (N.meaning net.old).connections client.old.conn) client.old (connection_at (N.meaning net.new).connections client.old.conn) client.new }
     ensures wants { result ≡ Step.Asks → V.wants client.new.talk }
     ensures none { result ≡ Step.Asks → V.protocol.due client.new.talk ≡ [] }
@@ -151,6 +155,7 @@ pub fn proceed<T: Drop, W, V: Service<T, W>, N: Net, H: Wait>(
     ensures only { OnlyAt (N.meaning net.old) (N.meaning net.new) client.old.conn }
     ensures same { client.new.conn ≡ client.old.conn }
     ensures holds { V.protocol.holds client.new.talk ≡ V.protocol.holds client.old.talk }
+    ensures rises { result ≢ Step.Memory → V.rank client.old.talk ≤ V.rank client.new.talk }
     ensures rests { result ≡ Step.Goes → ⊥ }
     ensures leaves { StepLeaves V.protocol V.fits service.now result idle (connection_at (N.meaning net.old).connections client.old.conn) client.old (connection_at (N.meaning net.new).connections client.old.conn) client.new }
     ensures wants { result ≡ Step.Asks → V.wants client.new.talk }

@@ -8,7 +8,7 @@ ghost use Rattle.stream_server.specs.Running.{AsksInVain, IsRunning, IsRunningBu
 ghost use Rattle.stream_server.specs.Keeping.{Fares, HasAccepted, IsStill, Keeps};
 ghost use Rattle.stream_server.specs.Serving.{IsAllServed};
 ghost use Rattle.stream_server.specs.Ranges.{IsInRange};
-ghost use Rattle.stream_server.specs.Services.{BeginsAgain, Polls, TiesAfter};
+ghost use Rattle.stream_server.specs.Services.{BeginsAgain, Polls, TiesAfter, TiesFrom};
 ghost use Rattle.stream_server.specs.Tables.{EachDeadline, IsListed, SeenTable, client_count};
 ghost use Rattle.stream_server.specs.declared.client.TheConstants.{NEVER};
 ghost use Rattle.stream_server.specs.declared.client.Client.{Client};
@@ -76,7 +76,7 @@ fn hold_client<T: Drop, W, V: Service<T, W>, N: Net, H>(
     requires wants { V.wants client.talk }
     requires none { V.protocol.due client.talk ≡ [] }
     requires free { V.protocol.holds client.talk ≡ false }
-    requires but { IsRunningBut V.protocol (V.fits service.old world.old) (V.tied_but service.old world.old) serving.now.terms (N.meaning net.old) table.old client.conn }
+    requires but { IsRunningBut V.protocol (V.fits service.old world.old) (TiesFrom (V.tied_but service.old world.old) (V.rank client.talk)) serving.now.terms (N.meaning net.old) table.old client.conn }
     ensures running { OnOk result (IsRunning V.protocol (V.fits service.new world.new) (V.tied service.new world.new) serving.now.terms (N.meaning net.new) table.new) }
     ensures left { OnErr result (LeftBy V.protocol (V.fits service.new world.new) serving.now.terms (N.meaning net.new)) }
     ensures service { StaysSound V.sound V.fits V.workers service.old world.old service.new world.new }
@@ -110,7 +110,7 @@ fn serve_client<T: Drop, W, V: Service<T, W>, N: Net, H: Wait>(
     requires live { IsLive (N.meaning net.old) client.conn }
     requires going { IsUnderWay V.protocol (V.fits service.old world.old) serving.now.terms (N.meaning net.old) client }
     requires free { V.protocol.holds client.talk ≡ false }
-    requires but { IsRunningBut V.protocol (V.fits service.old world.old) (V.tied_but service.old world.old) serving.now.terms (N.meaning net.old) table.old client.conn }
+    requires but { IsRunningBut V.protocol (V.fits service.old world.old) (TiesFrom (V.tied_but service.old world.old) (V.rank client.talk)) serving.now.terms (N.meaning net.old) table.old client.conn }
     requires sound { V.sound service.old world.old }
     ensures running { OnOk result (IsRunning V.protocol (V.fits service.new world.new) (V.tied service.new world.new) serving.now.terms (N.meaning net.new) table.new) }
     ensures left { OnErr result (LeftBy V.protocol (V.fits service.new world.new) serving.now.terms (N.meaning net.new)) }
@@ -234,7 +234,7 @@ fn poll_reply<T: Drop, W, V: Service<T, W>, N: Net>(
     requires { (accepted : ℕ) × V.tied service.old world.old table.old accepted }
     ensures polled { Polls result V.protocol (V.fits service.new world.new) table.old table.new }
     ensures tied { (accepted : ℕ) → V.tied service.old world.old table.old accepted
-        → TiesAfter result (V.tied service.new world.new table.new accepted) (λ conn. V.tied_but service.new world.new table.new accepted conn) }
+        → TiesAfter result (V.tied service.new world.new table.new accepted) (λ client. V.tied_but service.new world.new table.new accepted client.conn (V.rank client.talk)) }
     ensures fits { (apps : Apps) → V.fits service.new world.new apps → V.fits service.old world.old apps }
     ensures sound { V.sound service.new world.new }
     ensures workers { V.workers world.new ≡ V.workers world.old }

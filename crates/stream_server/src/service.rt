@@ -3,7 +3,7 @@ ghost use Rattle.std.specs.Prelude.{◌≡◌, ℕ, ◌+◌, ◌<◌, ◌≤◌,
 ghost use Rattle.wsgi_core.specs.Applications.{App};
 ghost use Rattle.wsgi_core.specs.Standings.{IsBegun, IsFed, IsTaken, IsToldTheEnd};
 ghost use Rattle.stream_server.specs.Protocols.{Apps, IsLawful, Protocol, side_of};
-ghost use Rattle.stream_server.specs.Services.{AreBeside, BeginsAgain, Closes, IsCutAt, IsGiven, IsGivenCut, IsHeldFrom, Polls, TiesAfter};
+ghost use Rattle.stream_server.specs.Services.{AreBeside, BeginsAgain, Closes, HasRankFrom, IsCutAt, IsGiven, IsGivenCut, IsHeldFrom, Polls, TiesAfter, TiesFrom};
 ghost use Rattle.stream_server.specs.Tables.{IsListed, Relists, SeenTable};
 ghost use Rattle.stream_server.specs.declared.client.Client.{Client};
 
@@ -54,6 +54,10 @@ pub trait Service<T, W> {
     /// What is said, and where a talk stands.
     ghost protocol: { Protocol T };
 
+    /// How far a talk has come, which never falls. By it a service knows that a request comes after those for which it
+    /// asked `W`.
+    ghost rank: { T → ℕ };
+
     /// The applications as which it answers its connections, with this `W` behind it.
     ghost fits: { Self → W → Apps → Type 0 };
 
@@ -63,8 +67,8 @@ pub trait Service<T, W> {
     /// What ties it to the clients that are listed, where so many were accepted.
     ghost tied: { Self → W → SeenTable T → ℕ → Type 0 };
 
-    /// The same, and of the client of this number it keeps nothing.
-    ghost tied_but: { Self → W → SeenTable T → ℕ → ℕ → Type 0 };
+    /// The same, and of the client of this number it keeps nothing but the least rank with which it may be listed again.
+    ghost tied_but: { Self → W → SeenTable T → ℕ → ℕ → ℕ → Type 0 };
 
     /// What holds of it and of `W` at any time.
     ghost sound: { Self → W → Type 0 };
@@ -91,11 +95,13 @@ pub trait Service<T, W> {
     fn took(&self, talk: &mut T, count: usize)
         requires { count ≤ length (protocol.due talk.old) }
         ensures taken { IsTaken protocol.at (take count (protocol.due talk.old)) talk.old talk.new }
+        ensures rises { rank talk.old ≤ rank talk.new }
         ensures holds { protocol.holds talk.new ≡ protocol.holds talk.old };
 
     /// The input has ended.
     fn end(&self, talk: &mut T)
         ensures told { IsToldTheEnd protocol.at talk.old talk.new }
+        ensures rises { rank talk.old ≤ rank talk.new }
         ensures holds { protocol.holds talk.new ≡ protocol.holds talk.old };
 
     /// Whether the talk goes on, where no request waits.
@@ -107,6 +113,7 @@ pub trait Service<T, W> {
     fn feed(&self, talk: &mut T, piece: &[u8]) -> Result<(), AllocError>
         ensures fed { OnOk result ((w : W) (apps : Apps) (conn : ℕ) → fits self.now w apps → IsFed protocol.at protocol.at (apps conn) piece.now talk.old talk.new) }
         ensures cut { OnErr result ((w : W) (apps : Apps) (conn : ℕ) → fits self.now w apps → IsCutAt protocol (apps conn) piece.now talk.old talk.new) }
+        ensures rises { OnOk result (rank talk.old ≤ rank talk.new) }
         ensures holds { protocol.holds talk.new ≡ protocol.holds talk.old };
 
     /// Gives the reply to the request that waits, if one does and its reply needn't be waited for.
@@ -115,15 +122,16 @@ pub trait Service<T, W> {
         ensures asks { result ≡ Replied.Asks → (talk.new ≡ talk.old) × wants talk.new }
         ensures given { result ≡ Replied.Given → (w : W) (apps : Apps) (conn : ℕ) → fits self.now w apps → IsGiven protocol (apps conn) talk.old talk.new }
         ensures cut { result ≡ Replied.Memory → (w : W) (apps : Apps) (conn : ℕ) → fits self.now w apps → IsGivenCut protocol (apps conn) talk.old talk.new }
+        ensures rises { result ≡ Replied.Given → rank talk.old ≤ rank talk.new }
         ensures holds { protocol.holds talk.new ≡ protocol.holds talk.old };
 
     /// Asks `W` for the reply to the request of this client, which is held until it comes: its deadline never comes, and
     /// its talk keeps the one that it had. After an `Err` the client isn't held.
     fn hold(&mut self, world: &mut W, client: &mut Client<T>) -> Result<(), HoldRefusal>
         requires wants { wants client.old.talk }
-        requires tied { (table : SeenTable T) × (accepted : ℕ) × tied_but self.old world.old table accepted client.old.conn }
+        requires tied { (table : SeenTable T) × (accepted : ℕ) × TiesFrom (tied_but self.old world.old) (rank client.old.talk) table accepted client.old.conn }
         ensures held { OnOk result (IsHeldFrom protocol client.old client.new) }
-        ensures tied { OnOk result ((table now : SeenTable T) (accepted : ℕ) → tied_but self.old world.old table accepted client.old.conn
+        ensures tied { OnOk result ((table now : SeenTable T) (accepted : ℕ) → TiesFrom (tied_but self.old world.old) (rank client.old.talk) table accepted client.old.conn
             → client.old.conn < accepted → Relists table now client.new.conn (Some client.new) → tied self.new world.new now accepted) }
         ensures fits { (apps : Apps) → fits self.new world.new apps → fits self.old world.old apps }
         ensures spent { result ≡ Err HoldRefusal.Spent → spent self.new world.new }
@@ -137,7 +145,7 @@ pub trait Service<T, W> {
         ensures polled { Polls result protocol (fits self.new world.new) table.old table.new }
         ensures again { BeginsAgain result deadline }
         ensures tied { (accepted : ℕ) → tied self.old world.old table.old accepted
-            → TiesAfter result (tied self.new world.new table.new accepted) (λ conn. tied_but self.new world.new table.new accepted conn) }
+            → TiesAfter result (tied self.new world.new table.new accepted) (λ client. tied_but self.new world.new table.new accepted client.conn (rank client.talk)) }
         ensures fits { (apps : Apps) → fits self.new world.new apps → fits self.old world.old apps }
         ensures sound { sound self.new world.new }
         ensures workers { workers world.new ≡ workers world.old };
@@ -161,13 +169,13 @@ pub trait Service<T, W> {
 
     /// It stays tied where one more was accepted,
     ghost tied_new: { (service : Self) (world : W) (table now : SeenTable T) (accepted : ℕ) → tied service world table accepted
-        → ((k : ℕ) (slot : Option (Client T)) → IsListed now k slot → IsListed table k slot) → tied_but service world now (accepted + 1) accepted };
+        → ((k : ℕ) (slot : Option (Client T)) → IsListed now k slot → IsListed table k slot) → tied_but service world now (accepted + 1) accepted 0 };
 
     /// where a client that isn't listed was listed or closed,
-    ghost tied_again: { (service : Self) (world : W) (table now : SeenTable T) (accepted conn : ℕ) → tied_but service world table accepted conn
-        → AreBeside table now conn → tied service world now accepted };
+    ghost tied_again: { (service : Self) (world : W) (table now : SeenTable T) (accepted conn low : ℕ) → tied_but service world table accepted conn low
+        → AreBeside table now conn → HasRankFrom rank low now conn → tied service world now accepted };
 
     /// and where a client that isn't held was taken out.
     ghost tied_out: { (service : Self) (world : W) (table now : SeenTable T) (accepted conn : ℕ) (client : Client T) → tied service world table accepted
-        → IsListed table conn (Some client) → protocol.holds client.talk ≡ false → AreBeside table now conn → tied_but service world now accepted conn };
+        → IsListed table conn (Some client) → protocol.holds client.talk ≡ false → AreBeside table now conn → tied_but service world now accepted conn (rank client.talk) };
 }

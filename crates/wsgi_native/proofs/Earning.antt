@@ -12,7 +12,8 @@ use Rattle.stream_server.proofs.Endings.{own_at}
 use Rattle.world.specs.Outside.{WorldMeaning as World}
 use Rattle.wsgi_core.specs.Applications.{App}
 use Rattle.wsgi_core.specs.Session.{session}
-use Rattle.wsgi_native.specs.Agreeing.{Agrees, HasEarned, Owner}
+use Rattle.stream_server.specs.Owning.{OwnOnce, Owner}
+use Rattle.wsgi_native.specs.Agreeing.{Agrees, HasEarned, IsPosted}
 use Rattle.wsgi_native.specs.JobApp.{job_app}
 use Rattle.wsgi_native.specs.Laws.{job_agrees}
 use Rattle.wsgi_native.specs.Owning.{AllAgree}
@@ -40,9 +41,10 @@ going_at owner w terms m g going app fits =
     subst (λ (a : App). IsGoing (side_of job_protocol a terms.port) terms.limits.idle (connection_at m.connections g.conn) g) (only_here g.conn app) (going (only g.conn app) (only_agrees owner w g.conn app fits))
 
 -- so is what is left of each connection
-pub earned_by : (owner : Owner) (w : World) (terms : Terms) (m : NetMeaning) → LeftBy job_protocol (AllAgree owner w) terms m → HasEarned terms.port m.connections w
-earned_by owner w terms m left = record {
+pub earned_by : (owner : Owner) (w : World) (terms : Terms) (m : NetMeaning) → OwnOnce (IsPosted w.posts) owner → LeftBy job_protocol (AllAgree owner w) terms m → HasEarned terms.port m.connections w
+earned_by owner w terms m once left = record {
   owner = owner;
+  once = once;
   own = λ k app bytes out fits in' reads writes. own_at (session app terms.port) terms.limits.idle (connection_at m.connections k) (served_at k app fits in') bytes out reads writes;
 }
   where

@@ -1,5 +1,5 @@
 -- What posts and answers make of what fits, and of the clients.
-use Rattle.std.proofs.Common.{◌≡◌, ℕ, ◌+◌, ◌==◌, Bool, true, false, if◌then◌else◌, List, [], ◌∷◌, Option, Some, None, Result, Ok, Err, is_some, option_map, refl, sym, ap, ◌∙◌, subst, arith}
+use Rattle.std.proofs.Common.{◌≡◌, ℕ, ◌+◌, ◌≤◌, ◌==◌, Bool, true, false, if◌then◌else◌, List, [], ◌∷◌, Option, Some, None, Result, Ok, Err, is_some, option_map, refl, sym, ap, ◌∙◌, subst, arith}
 use Rattle.std.specs.Prelude.{Contains, IsSome, OnErr, is_err}
 use Rattle.std.proofs.lemmas.Bool.{false≢true}
 use Rattle.std.proofs.lemmas.Bool.Decides.{nat_tests}
@@ -21,13 +21,15 @@ use Rattle.stream_server.specs.declared.client.Client.{Client}
 use Rattle.stream_server.specs.declared.client.TheConstants.{NEVER}
 use Rattle.wsgi_core.specs.Steps.{StandsAt, asked_of}
 use Rattle.wsgi_core.specs.declared.session.Session.{Session}
-use Rattle.wsgi_native.specs.Agreeing.{Agrees, Owner}
+use Rattle.stream_server.specs.Owning.{Owner, owned_out}
+use Rattle.wsgi_native.specs.Agreeing.{Agrees, IsPosted}
 use Rattle.wsgi_native.specs.Asking.{HasAsked, WantsJob}
 use Rattle.wsgi_native.specs.Giving.{Gives, IsGivenTo}
 use Rattle.wsgi_native.specs.JobApp.{outcome_reply}
 use Rattle.wsgi_native.specs.Owning.{AllAgree}
-use Rattle.wsgi_native.specs.Talks.{deadline_in, held_number, job_protocol, request_of}
-use Rattle.wsgi_native.specs.Tied.{Awaits, IsTied, IsTiedBut}
+use Rattle.wsgi_native.specs.Talks.{deadline_in, held_number, job_protocol, next_of, rank_of, request_of}
+use Rattle.wsgi_native.specs.Laws.{next_most}
+use Rattle.wsgi_native.specs.Tied.{Awaits, HaveOwners, HaveOwnersBut, IsTied, IsTiedBut}
 use Rattle.wsgi_native.specs.declared.job_talk.HeldFor.{HeldFor}
 use Rattle.wsgi_native.specs.declared.job_talk.JobTalk.{JobTalk}
 use Rattle.wsgi_native.proofs.Tying.{now_answered, reply_is, still_answered, tied_answered}
@@ -157,7 +159,17 @@ module _ (w v : World) (owner : Owner) (last : ℕ) (waiting less : ℕ → Opti
   gives_polled Memory accepted t is = tt
 
   pub gives_tied : (r : Polled JobTalk) (accepted : ℕ) → IsTied w owner last waiting (IsListed table) accepted → Gives r outcome was
-      → TiesAfter r (IsTied v owner last less (IsListed now) accepted) (λ conn. IsTiedBut v owner last less (IsListed now) accepted conn)
+      → TiesAfter r (IsTied v owner last less (IsListed now) accepted) (λ given. IsTiedBut v owner last less (IsListed now) accepted given.conn)
   gives_tied Nobody accepted t is = absurd is
   gives_tied (Released given) accepted t is = polled_tied w v owner last waiting less table now accepted k number outcome at was given t s right here row number_is takes relists is
   gives_tied Memory accepted t is = tt
+
+  -- the job that it owned is one of a request that was answered
+  pub gives_owned : (r : Polled JobTalk) (accepted : ℕ) → HaveOwners w.posts owner (IsListed table) accepted → Gives r outcome was
+      → TiesAfter r (HaveOwners v.posts owner (IsListed now) accepted) (λ given. HaveOwnersBut v.posts owner (IsListed now) accepted given.conn (rank_of given.talk))
+  gives_owned Nobody accepted t is = absurd is
+  gives_owned (Released given) accepted t is =
+      subst (λ (n : ℕ). HaveOwnersBut v.posts owner (IsListed now) accepted n (rank_of given.talk)) (sym (is.conn ∙ number_is))
+      (subst (λ (z : List PostedJob). HaveOwnersBut z owner (IsListed now) accepted k (rank_of given.talk)) (sym s.posts)
+      (owned_out next_of (IsPosted w.posts) owner (IsListed table) (IsListed now) accepted k (rank_of given.talk) was t row (subst (λ (n : ℕ). next_of was.talk ≤ n) (sym is.answered) (next_most was.talk.held (rank_of was.talk))) relists.others))
+  gives_owned Memory accepted t is = tt

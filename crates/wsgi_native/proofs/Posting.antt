@@ -1,5 +1,5 @@
 -- What was posted to the world, and the log for which it stands.
-use Rattle.std.proofs.Common.{◌≡◌, ◌↔◌, ℕ, ◌+◌, List, [], ◌∷◌, ◌++◌, length, arith, refl, sym, ap, ◌∙◌, subst}
+use Rattle.std.proofs.Common.{◌≡◌, ◌↔◌, ℕ, ◌+◌, List, [], ◌∷◌, ◌++◌, length, arith, sym, ap, ◌∙◌, subst}
 use Rattle.std.proofs.lemmas.List.{length-append}
 use Rattle.gv_values.specs.declared.job.Answer.{Answer}
 use Rattle.gv_values.specs.declared.job.Job.{Job}
@@ -10,6 +10,7 @@ use Rattle.world_rules.specs.Legal.{IsLegal, posted}
 use Rattle.world.specs.Outside.{Posts, Stores, WorldMeaning}
 use Rattle.world.proofs.LegalLogs.{logged_asked, logged_post, logged_same}
 use Rattle.stream_server.specs.Services.{TiesAfter}
+use Rattle.stream_server.specs.declared.client.Client.{Client}
 use Rattle.stream_server.specs.declared.service.Polled.{Polled}
 use Rattle.wsgi_native.specs.Tied.{AreNumberedFrom, HasPosted, HasPostedTo}
 
@@ -56,8 +57,9 @@ posted_none last w stands none posts answers log = record {
   };
 }
 
--- what holds of the world holds after a poll, whatever that led to
-pub gives_posted : {T : Type 0} (P whole : Type 0) (but : ℕ → Type 0) (polled : Polled T) → P → TiesAfter polled whole but → TiesAfter polled (whole × P) (λ conn. but conn × P)
-gives_posted P whole but Polled.Nobody here ties = (ties, here)
-gives_posted P whole but (Polled.Released client) here ties = (ties, here)
-gives_posted P whole but Polled.Memory here ties = ties
+-- what holds of the world, and of the owners, holds after a poll, whatever that led to
+pub gives_posted : {T : Type 0} (P whole owned : Type 0) (but owned_but : Client T → Type 0) (polled : Polled T) → P → TiesAfter polled whole but → TiesAfter polled owned owned_but
+    → TiesAfter polled (whole × P × owned) (λ client. but client × P × owned_but client)
+gives_posted P whole owned but owned_but Polled.Nobody here ties owns = (ties, here, owns)
+gives_posted P whole owned but owned_but (Polled.Released client) here ties owns = (ties, here, owns)
+gives_posted P whole owned but owned_but Polled.Memory here ties owns = tt

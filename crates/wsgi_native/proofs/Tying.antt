@@ -20,10 +20,11 @@ use Rattle.stream_server.specs.Keeping.{Listing}
 use Rattle.stream_server.specs.declared.client.Client.{Client}
 use Rattle.wsgi_native.specs.Asking.{WantsJob}
 use Rattle.wsgi_core.specs.Applications.{App}
-use Rattle.wsgi_native.specs.Agreeing.{Agrees, Owner}
+use Rattle.stream_server.specs.Owning.{OwnOnce, Owner, once_more, owned_more, owned_none}
+use Rattle.wsgi_native.specs.Agreeing.{Agrees, IsPosted}
 use Rattle.wsgi_native.specs.JobApp.{outcome_reply}
-use Rattle.wsgi_native.specs.Talks.{held_number, request_of}
-use Rattle.wsgi_native.specs.Tied.{Awaits, IsFor, IsInOrder, IsTied, IsTiedBut}
+use Rattle.wsgi_native.specs.Talks.{held_number, next_of, rank_of, request_of}
+use Rattle.wsgi_native.specs.Tied.{Awaits, HaveOwners, HaveOwnersBut, IsFor, IsInOrder, IsTied, IsTiedBut}
 use Rattle.wsgi_native.specs.declared.job_talk.JobTalk.{JobTalk}
 
 -- ---- posts and answers that grow by one
@@ -81,6 +82,13 @@ tied_none w owner waiting listed accepted runs posts answers none = record {
   below = λ n k e. absurd (cc (none n));
   held = λ n k slot e row. absurd (cc (none n));
 }
+
+-- no job has an owner yet
+pub none_posted : (w : WorldMeaning) → w.posts ≡ [] → (n : ℕ) → IsPosted w.posts n → ⊥
+none_posted w none n h = false≢true (sym (ap (is_posted n) none) ∙ h)
+
+pub owners_none : (w : WorldMeaning) (owner : Owner) (listed : Listing JobTalk) (accepted : ℕ) → w.posts ≡ [] → HaveOwners w.posts owner listed accepted
+owners_none w owner listed accepted none = owned_none next_of (IsPosted w.posts) owner listed accepted (none_posted w none)
 
 -- one that was just answered is answered
 pub now_answered : (n : ℕ) (answers : List Answer) (outcome : JobOutcome) (at : ℕ) → is_answered n (answers ++ Answer.Done n outcome at ∷ []) ≡ true
@@ -167,6 +175,25 @@ tied_posted w v owner own last waiting more listed now accepted k job g t within
         let number_is : last + 1 ≡ n = grind (arith, nat_tests) in
         let f : j ≡ k = cc in held_here n slot test number_is (here slot (subst (λ i. now i slot) f row))
     held_by n j slot false test e row = still_for n slot test (o.held n j slot e (others j slot (t.others n j e) row))
+
+-- ---- its owner
+
+-- a job that is posted now was, or is the new one
+new_or_old : (w v : WorldMeaning) (number : ℕ) (job : Job) → Posts w v number job → (n : ℕ) → IsPosted v.posts n → IsPosted w.posts n ⊎ (number ≡ n)
+new_or_old w v number job p n h = by (number == n) refl (sym (posted_still n number w.posts job (is_posted n w.posts) refl) ∙ sym (ap (is_posted n) p.posts) ∙ h)
+  where
+    by : (b : Bool) → (number == n) ≡ b → (is_posted n w.posts || ((number == n) || false)) ≡ true → IsPosted w.posts n ⊎ (number ≡ n)
+    by true test e = inr (grind (arith, nat_tests))
+    by false test e = inl (or_first (is_posted n w.posts) (number == n) test e)
+
+-- the request of a client that goes on owned none
+module _ (w v : WorldMeaning) (owner own : Owner) (listed : Listing JobTalk) (accepted number low : ℕ) (job : Job) (was : Client JobTalk) (t : HaveOwnersBut w.posts owner listed accepted was.conn low)
+    (p : Posts w v number job) (owns : (n : ℕ) → own n ≡ (if number == n then (was.conn, rank_of was.talk) else owner n)) (least : low ≤ rank_of was.talk) where
+  pub owns_once : OwnOnce (IsPosted v.posts) own
+  owns_once = once_more next_of (IsPosted w.posts) owner (IsPosted v.posts) own listed accepted was.conn low number (rank_of was.talk) t (new_or_old w v number job p) owns least
+
+  pub owners_more : (now : Listing JobTalk) (g : Client JobTalk) → was.conn < accepted → rank_of was.talk < next_of g.talk → ((s : Option (Client JobTalk)) → now was.conn s → s ≡ Some g) → ((j : ℕ) (s : Option (Client JobTalk)) → j ≢ was.conn → now j s → listed j s) → HaveOwners v.posts own now accepted
+  owners_more now g within past here others = owned_more next_of (IsPosted w.posts) owner (IsPosted v.posts) own listed accepted was.conn low number (rank_of was.talk) t (new_or_old w v number job p) owns least now g within past here others
 
 -- ---- an answer
 

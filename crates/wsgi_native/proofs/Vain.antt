@@ -23,7 +23,7 @@ use Rattle.wsgi_core.proofs.ProgressLaws.{from_first, from_next}
 use Rattle.wsgi_core.specs.declared.session.Session.{Session}
 use Rattle.wsgi_core.specs.declared.session.SessionStage.{SessionStage}
 use Rattle.wsgi_core.specs.declared.session.SessionStage.TheVariants.{AtHead, InBody, Asked}
-use Rattle.wsgi_native.specs.Agreeing.{Owner}
+use Rattle.stream_server.specs.Owning.{Owner}
 use Rattle.wsgi_native.specs.Asking.{AsksForJob}
 use Rattle.wsgi_native.specs.Ends.{IsOutOfJobs}
 use Rattle.wsgi_native.specs.JobApp.{job_app, job_asked}

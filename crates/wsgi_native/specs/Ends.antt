@@ -9,7 +9,8 @@ use Rattle.wsgi_core.specs.Answer.{◌⨾◌, answer}
 use Rattle.wsgi_core.specs.Applications.{App, from}
 use Rattle.wsgi_core.specs.Session.{answers}
 use Rattle.wsgi_native.specs.declared.jobs.TheConstants.{LAST_JOB}
-use Rattle.wsgi_native.specs.Agreeing.{Agrees, Owner}
+use Rattle.stream_server.specs.Owning.{Owner}
+use Rattle.wsgi_native.specs.Agreeing.{Agrees}
 use Rattle.wsgi_native.specs.JobApp.{job_asked}
 
 -- Behind what was written comes the answer to the request of this number, which asks for a job, whatever comes behind

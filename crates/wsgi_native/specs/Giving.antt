@@ -1,5 +1,5 @@
 -- What a client is given.
-use Rattle.std.specs.Prelude.{◌≡◌, ◌≤◌, None}
+use Rattle.std.specs.Prelude.{◌≡◌, ◌+◌, ◌≤◌, None}
 use Rattle.gv_values.specs.declared.job.JobOutcome.{JobOutcome}
 use Rattle.stream_server.specs.Services.{IsGiven}
 use Rattle.stream_server.specs.declared.client.Client.{Client}
@@ -16,6 +16,7 @@ pub record IsGivenTo (outcome : JobOutcome) (old new : Client JobTalk) : Type 0 
   pub conn : new.conn ≡ old.conn
   pub ended : new.ended ≡ old.ended
   pub free : new.talk.held ≡ None
+  pub answered : answered_of new.talk.session ≡ answered_of old.talk.session + 1
   pub later : deadline_in old.talk.held ≤ new.deadline
   pub stands : (app : App) → IsReplyTo app (answered_of old.talk.session) (request_of old.talk) (outcome_reply outcome) → IsGiven job_protocol app old.talk new.talk
 

@@ -2,7 +2,8 @@
 use Rattle.std.specs.Prelude.{ℕ, ◌==◌, if◌then◌else◌, List, [], ◌∷◌}
 use Rattle.stream_server.specs.Protocols.{Apps}
 use Rattle.world.specs.Outside.{WorldMeaning as World}
-use Rattle.wsgi_native.specs.Agreeing.{Agrees, Owner}
+use Rattle.stream_server.specs.Owning.{Owner}
+use Rattle.wsgi_native.specs.Agreeing.{Agrees}
 
 -- the owner of the job of this number, by a list of numbers and owners, of which the first one of a number counts
 abbrev pub owner_in : List (ℕ × (ℕ × ℕ)) → ℕ → ℕ × ℕ

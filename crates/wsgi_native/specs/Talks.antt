@@ -1,10 +1,10 @@
 -- A session that may wait for a job, as one side of a connection.
-use Rattle.std.specs.Prelude.{ℕ, Bool, List, Option, Some, None, is_some, option_map}
+use Rattle.std.specs.Prelude.{ℕ, ◌+◌, Bool, List, Option, Some, None, is_some, option_map}
 use Rattle.http_messages.specs.Environ.{Pair}
 use Rattle.stream_server.specs.Protocols.{Protocol}
 use Rattle.wsgi_core.specs.Session.{session}
 use Rattle.wsgi_core.specs.Standings.{Standing}
-use Rattle.wsgi_core.specs.Steps.{StandsAt, asked_of}
+use Rattle.wsgi_core.specs.Steps.{StandsAt, answered_of, asked_of}
 use Rattle.wsgi_native.specs.declared.job_talk.HeldFor.{HeldFor}
 use Rattle.wsgi_native.specs.declared.job_talk.JobTalk.{JobTalk}
 
@@ -36,3 +36,15 @@ job_protocol = record {
   holds = holds_for;
   kept = λ t. deadline_in t.held;
 }
+
+-- how many of its requests were answered
+abbrev pub rank_of : JobTalk → ℕ
+rank_of t = answered_of t.session
+
+abbrev pub next_behind : Option HeldFor → ℕ → ℕ
+next_behind None answered = answered
+next_behind (Some h) answered = answered + 1
+
+-- the number of its next request for which a job may be posted: the one that is held has its job
+abbrev pub next_of : JobTalk → ℕ
+next_of t = next_behind t.held (rank_of t)

@@ -9,9 +9,10 @@ use Rattle.world.specs.Outside.{WorldMeaning}
 use Rattle.wsgi_core.specs.Steps.{answered_of}
 use Rattle.stream_server.specs.Keeping.{Listing}
 use Rattle.stream_server.specs.declared.client.Client.{Client}
-use Rattle.wsgi_native.specs.Agreeing.{Owner}
+use Rattle.stream_server.specs.Owning.{AreOwned, AreOwnedBut, Owner}
+use Rattle.wsgi_native.specs.Agreeing.{IsPosted}
 use Rattle.wsgi_native.specs.Asking.{WantsJob}
-use Rattle.wsgi_native.specs.Talks.{held_number}
+use Rattle.wsgi_native.specs.Talks.{held_number, next_of}
 use Rattle.wsgi_native.specs.declared.job_talk.JobTalk.{JobTalk}
 
 -- the world runs, and each job that it answered was posted
@@ -63,3 +64,11 @@ pub record IsTied (w : WorldMeaning) (owner : Owner) (last : ℕ) (waiting : ℕ
 pub record IsTiedBut (w : WorldMeaning) (owner : Owner) (last : ℕ) (waiting : ℕ → Option ℕ) (listed : Listing JobTalk) (accepted one : ℕ) : Type 0 where
   pub tied : IsTied w owner last waiting listed accepted
   pub others : (number k : ℕ) → waiting number ≡ Some k → k ≢ one
+
+-- no request owns two jobs
+abbrev pub HaveOwners : List PostedJob → Owner → Listing JobTalk → ℕ → Type 0
+HaveOwners posts owner listed accepted = AreOwned next_of (IsPosted posts) owner listed accepted
+
+-- the same, and those of this connection that own a job come before that number
+abbrev pub HaveOwnersBut : List PostedJob → Owner → Listing JobTalk → ℕ → ℕ → ℕ → Type 0
+HaveOwnersBut posts owner listed accepted one low = AreOwnedBut next_of (IsPosted posts) owner listed accepted one low

@@ -3,6 +3,7 @@ ghost use Rattle.std.specs.Prelude.{◌≡◌, ◌≢◌, ℕ, ◌+◌, ◌<◌,
 ghost use Rattle.std.specs.HashMap.{get};
 ghost use Rattle.wsgi_core.specs.Applications.{App};
 ghost use Rattle.wsgi_core.specs.Steps.{asked_of};
+ghost use Rattle.stream_server.specs.Owning.{OwnOnce};
 ghost use Rattle.stream_server.specs.Protocols.{Apps};
 ghost use Rattle.world_rules.specs.Legal.{is_posted};
 ghost use Rattle.stream_server.specs.Services.{BeginsAgain};
@@ -10,12 +11,13 @@ ghost use Rattle.stream_server.specs.Tables.{IsListed, SeenTable};
 ghost use Rattle.stream_server.specs.declared.client.Client.{Client};
 ghost use Rattle.wsgi_native.specs.declared.job_talk.JobTalk.{JobTalk};
 ghost use Rattle.wsgi_native.specs.declared.jobs.TheConstants.{LAST_JOB};
+ghost use Rattle.wsgi_native.specs.Agreeing.{IsPosted};
 ghost use Rattle.wsgi_native.specs.Asking.{AsksForJob, HasAsked, WantsJob};
 ghost use Rattle.wsgi_native.specs.Giving.{Gives};
 ghost use Rattle.wsgi_native.specs.JobApp.{job_app};
 ghost use Rattle.wsgi_native.specs.Owning.{AllAgree, owner_in};
-ghost use Rattle.wsgi_native.specs.Talks.{job_protocol};
-ghost use Rattle.wsgi_native.specs.Tied.{HasPosted, HasPostedTo, IsInOrder, IsTied, IsTiedBut};
+ghost use Rattle.wsgi_native.specs.Talks.{job_protocol, rank_of};
+ghost use Rattle.wsgi_native.specs.Tied.{HasPosted, HasPostedTo, HaveOwners, HaveOwnersBut, IsInOrder, IsTied, IsTiedBut};
 
 use crate::job_app::{job_asked, job_reply};
 use crate::job_talk::{Asked, HeldFor, JobTalk, asked_for, freed};
@@ -110,15 +112,17 @@ fn is_result(answer: &Answer) -> bool {
 impl<W: World> Service<JobTalk, W> for Jobs {
     ghost protocol = { job_protocol };
 
+    ghost rank = { rank_of };
+
     ghost fits = { λ jobs world apps. AllAgree (owner_in jobs.owners.list) (W.meaning world) apps };
 
     ghost one = { λ jobs world conn. job_app };
 
-    ghost tied = { λ jobs world table accepted. IsTied (W.meaning world) (owner_in jobs.owners.list) jobs.posted (get nat_eq jobs.waiting) (IsListed table) accepted × HasPostedTo jobs.posted (W.meaning world) (W.stands_for world) };
+    ghost tied = { λ jobs world table accepted. IsTied (W.meaning world) (owner_in jobs.owners.list) jobs.posted (get nat_eq jobs.waiting) (IsListed table) accepted × HasPostedTo jobs.posted (W.meaning world) (W.stands_for world) × HaveOwners (W.meaning world).posts (owner_in jobs.owners.list) (IsListed table) accepted };
 
-    ghost tied_but = { λ jobs world table accepted conn. IsTiedBut (W.meaning world) (owner_in jobs.owners.list) jobs.posted (get nat_eq jobs.waiting) (IsListed table) accepted conn × HasPostedTo jobs.posted (W.meaning world) (W.stands_for world) };
+    ghost tied_but = { λ jobs world table accepted conn low. IsTiedBut (W.meaning world) (owner_in jobs.owners.list) jobs.posted (get nat_eq jobs.waiting) (IsListed table) accepted conn × HasPostedTo jobs.posted (W.meaning world) (W.stands_for world) × HaveOwnersBut (W.meaning world).posts (owner_in jobs.owners.list) (IsListed table) accepted conn low };
 
-    ghost sound = { λ jobs world. IsInOrder (W.meaning world) × HasPosted (W.meaning world) (W.stands_for world) };
+    ghost sound = { λ jobs world. IsInOrder (W.meaning world) × HasPosted (W.meaning world) (W.stands_for world) × OwnOnce (IsPosted (W.meaning world).posts) (owner_in jobs.owners.list) };
 
     ghost wants = { AsksForJob };
 
@@ -254,9 +258,9 @@ impl<W: World> Service<JobTalk, W> for Jobs {
 
     ghost fits_one = { λ jobs world. laws.job_agrees (owner_in jobs.owners.list) (W.meaning world) };
 
-    ghost tied_new = { λ jobs world table now accepted tied same. (laws.tied_new (W.meaning world) (owner_in jobs.owners.list) jobs.posted (get nat_eq jobs.waiting) (IsListed table) (IsListed now) accepted tied.0 same, tied.1) };
+    ghost tied_new = { λ jobs world table now accepted tied same. (laws.tied_new (W.meaning world) (owner_in jobs.owners.list) jobs.posted (get nat_eq jobs.waiting) (IsListed table) (IsListed now) accepted tied.0 same, tied.1, laws.owners_new (W.meaning world).posts (owner_in jobs.owners.list) (IsListed table) (IsListed now) accepted tied.2 same) };
 
-    ghost tied_again = { λ jobs world table now accepted conn tied beside. (laws.tied_again (W.meaning world) (owner_in jobs.owners.list) jobs.posted (get nat_eq jobs.waiting) (IsListed table) (IsListed now) accepted conn tied.0 beside, tied.1) };
+    ghost tied_again = { λ jobs world table now accepted conn low tied beside from. (laws.tied_again (W.meaning world) (owner_in jobs.owners.list) jobs.posted (get nat_eq jobs.waiting) (IsListed table) (IsListed now) accepted conn tied.0 beside, tied.1, laws.owners_again (W.meaning world).posts (owner_in jobs.owners.list) (IsListed table) (IsListed now) accepted conn low tied.2 beside from) };
 
-    ghost tied_out = { λ jobs world table now accepted conn client tied listed free beside. (laws.tied_out (W.meaning world) (owner_in jobs.owners.list) jobs.posted (get nat_eq jobs.waiting) (IsListed table) (IsListed now) accepted conn client tied.0 listed free beside, tied.1) };
+    ghost tied_out = { λ jobs world table now accepted conn client tied listed free beside. (laws.tied_out (W.meaning world) (owner_in jobs.owners.list) jobs.posted (get nat_eq jobs.waiting) (IsListed table) (IsListed now) accepted conn client tied.0 listed free beside, tied.1, laws.owners_out (W.meaning world).posts (owner_in jobs.owners.list) (IsListed table) (IsListed now) accepted conn client tied.2 listed free beside) };
 }

@@ -1,4 +1,5 @@
-use Rattle.std.proofs.Common.{◌≡◌, [], refl, sym, subst}
+use Rattle.std.proofs.Common.{◌≡◌, ◌≤◌, [], refl, sym, subst}
+use Rattle.std.proofs.Math.Nat.{le_refl}
 use Rattle.stream_net.specs.Net.{connection_at}
 use Rattle.stream_server.specs.Protocols.{side_of}
 use Rattle.stream_server.proofs.Stepping.{none_left, reply_cut, same_going, was_given}
@@ -39,3 +40,13 @@ returns-in-Asks-clause-wants g c = λ _. (c.in-Asks.ensures.asks refl).1
 pub returns-in-Memory-clause-leaves : goal.returns-in-Memory-clause-leaves
 returns-in-Memory-clause-leaves g c = λ w apps conn port fits h.
     reply_cut (side_of g.V.Service.protocol (apps conn) port) c.args.idle 0 _ c.args.client.now (g.V.Service.protocol.due c.reply.new.talk) h (c.in-Memory.ensures.cut refl w apps conn fits port)
+
+pub returns-in-NoRequest-clause-rises : goal.returns-in-NoRequest-clause-rises
+returns-in-NoRequest-clause-rises g c = λ enough.
+    let P : g.row.T.Denot → Type 0 = λ t. g.V.Service.rank t ≤ g.V.Service.rank c.listen_on.new.client.talk in
+    subst P (c.in-NoRequest.ensures.no_request refl).0 (c.listen_on.ensures.rises enough)
+
+pub returns-in-Asks-clause-rises : goal.returns-in-Asks-clause-rises
+returns-in-Asks-clause-rises g c = λ enough.
+    let P : g.row.T.Denot → Type 0 = λ t. g.V.Service.rank c.args.client.now.talk ≤ g.V.Service.rank t in
+    subst P (sym (c.in-Asks.ensures.asks refl).0) (le_refl _)

@@ -1,8 +1,13 @@
-use Rattle.std.proofs.Common.{refl, ◌∙◌}
+use Rattle.std.proofs.Common.{◌≡◌, refl, ◌∙◌}
+use Rattle.std.proofs.Math.Nat.{le_refl, le_trans}
 use Rattle.stream_server.specs.Protocols.{side_of}
 use Rattle.stream_server.specs.Steps.{IsGoing, Leaves}
+use Rattle.stream_server.specs.declared.exchange.Step.{Step}
 use Rattle.stream_server.proofs.Stepping.{only_none, only_more, live_more, live_same, leaves_more}
 use Rattle.stream_server.proofs.exchange.proceed.Goals as goal
+
+goes_is_not_memory : Step.Goes ≡ Step.Memory → ⊥
+goes_is_not_memory e = cc
 
 pub loop-init : goal.loop-init
 loop-init g c = record {
@@ -12,6 +17,7 @@ loop-init g c = record {
   only = only_none _ c.args.client.now.conn;
   same = λ i. c.args.client.now.conn;
   holds = refl;
+  rises = le_refl _;
   leaves = λ w apps conn port fits h. h;
 }
 
@@ -28,6 +34,7 @@ loop-preserved g c =
       only = only_more _ _ _ c.args.client.now.conn c.loop.client.conn was.same was.only c.in-Goes.ensures.only;
       same = c.in-Goes.ensures.same ∙ was.same;
       holds = c.in-Goes.ensures.holds ∙ was.holds;
+      rises = le_trans was.rises (c.in-Goes.ensures.rises goes_is_not_memory);
       leaves = λ w apps conn port fits h.
           let S = side_of g.V.Service.protocol (apps conn) port in
           leaves_more (g.N.Net.meaning c.loop.net) (g.N.Net.meaning c.advance.new.net) c.args.client.now.conn c.loop.client.conn was.same
@@ -41,6 +48,7 @@ returns-in_default g c =
       only = only_more _ _ _ c.args.client.now.conn c.loop.client.conn was.same was.only c.advance.ensures.only;
       same = c.advance.ensures.same ∙ was.same;
       holds = c.advance.ensures.holds ∙ was.holds;
+      rises = λ enough. le_trans was.rises (c.advance.ensures.rises enough);
       rests = c.in_default.not-Goes;
       leaves = λ w apps conn port fits h.
           let S = side_of g.V.Service.protocol (apps conn) port in

@@ -1,5 +1,6 @@
 use Rattle.std.proofs.Common.{◌≡◌, ℕ, Bool, Result, Err, arith, refl, sym, subst, ◌∙◌}
 use Rattle.stream_server.specs.Members.{AreBelow}
+use Rattle.stream_server.specs.Services.{TiesFrom}
 use Rattle.stream_net.specs.declared.net.Accepted.{Accepted}
 use Rattle.stream_server.proofs.Faring.{fares_well, no_fault}
 use Rattle.stream_server.proofs.Rounding.{begun_going, new_left, running_left, running_listens, running_new, running_rests, running_same, same_fault}
@@ -21,9 +22,9 @@ serve_client-requires-clause-going g c =
 
 pub serve_client-requires-clause-but : goal.serve_client-requires-clause-but
 serve_client-requires-clause-but g c =
-    running_new g.V.Service.protocol g.met.V.Service.lawful c.args.serving.now.terms (g.V.Service.fits c.args.service.now c.args.world.now) (g.V.Service.tied c.args.service.now c.args.world.now) (g.V.Service.tied_but c.args.service.now c.args.world.now) (g.N.Net.meaning c.args.net.now) (g.N.Net.meaning c.accept.new.self) c.args.table.now c.admit.new.self c.in-New.conn
+    running_new g.V.Service.protocol g.met.V.Service.lawful c.args.serving.now.terms (g.V.Service.fits c.args.service.now c.args.world.now) (g.V.Service.tied c.args.service.now c.args.world.now) (TiesFrom (g.V.Service.tied_but c.args.service.now c.args.world.now) (g.V.Service.rank c.begin-talk.result)) (g.N.Net.meaning c.args.net.now) (g.N.Net.meaning c.accept.new.self) c.args.table.now c.admit.new.self c.in-New.conn
     c.requires.running c.in-New.ensures.accepts (omega (arith, c.requires.place, c.requires.running.admitted.count)) c.requires.more
-    (λ n tied same. g.met.V.Service.tied_new c.args.service.now c.args.world.now c.args.table.now c.admit.new.self n tied same) c.in-Ok.ensures.ok
+    (λ n tied same. (0, omega arith, g.met.V.Service.tied_new c.args.service.now c.args.world.now c.args.table.now c.admit.new.self n tied same)) c.in-Ok.ensures.ok
 
 pub returns-in-WouldBlock-clause-running : goal.returns-in-WouldBlock-clause-running
 returns-in-WouldBlock-clause-running g c = running_same g.V.Service.protocol g.met.V.Service.lawful c.args.serving.now.terms (g.V.Service.fits c.args.service.now c.args.world.now) (g.V.Service.tied c.args.service.now c.args.world.now) (g.N.Net.meaning c.args.net.now) (g.N.Net.meaning c.accept.new.self) c.args.table.now _ c.requires.running c.in-WouldBlock.ensures.accepts

@@ -1,4 +1,4 @@
-use Rattle.std.proofs.Common.{sym, subst}
+use Rattle.std.proofs.Common.{ap, sym, subst, ◌∙◌}
 use Rattle.world.proofs.Ranking.{at_ok}
 use Rattle.wsgi_core.specs.Steps.{IsReplyTo, StandsAt, answered_of}
 use Rattle.wsgi_core.specs.declared.reply.Reply.{Reply}
@@ -13,6 +13,7 @@ returns-clause-gives c =
       conn = e.conn;
       ended = e.ended;
       free = e.free;
+      answered = ap (λ (s : Session). answered_of s) e.session ∙ at_ok c.answer.result c.if-is_err.ensures.value c.answer.ensures.counted;
       later = e.later;
       stands = λ app is port fed ended taken at. subst (λ (s : Session). StandsAt app port fed ended taken s) (sym e.session)
           (at_ok c.answer.result c.if-is_err.ensures.value c.answer.ensures.stands_at app port fed ended taken

@@ -11,7 +11,7 @@ use Rattle.wsgi_native.specs.Tied.{IsTied}
 use Rattle.wsgi_native.specs.Laws.{job_agrees}
 use Rattle.wsgi_native.proofs.Earning.{earned_by}
 use Rattle.wsgi_native.proofs.Posting.{posted_none}
-use Rattle.wsgi_native.proofs.Tying.{first_order, tied_none}
+use Rattle.wsgi_native.proofs.Tying.{first_order, none_posted, owners_none, tied_none}
 use Rattle.wsgi_native.proofs.Vain.{ends_in_vain, out_of_jobs}
 use Rattle.wsgi_native.proofs.serving.serve_jobs.Goals as goal
 
@@ -20,10 +20,11 @@ serve_on-end-requires-clause-tied g c = λ table. (
   subst (λ (n : ℕ). IsTied (g.W.World.meaning c.args.world.now) (owner_in c.new-jobs.result.owners.list) n (get nat_eq c.new-jobs.result.waiting) (IsListed table) 0) (sym c.new-jobs.ensures.none)
       (tied_none (g.W.World.meaning c.args.world.now) (owner_in c.new-jobs.result.owners.list) (get nat_eq c.new-jobs.result.waiting) (IsListed table) 0 c.requires.runs c.requires.no_posts c.requires.no_answers c.new-jobs.ensures.nobody),
   posted_none _ _ _ c.new-jobs.ensures.none c.requires.no_posts c.requires.no_answers c.requires.log,
+  owners_none (g.W.World.meaning c.args.world.now) (owner_in c.new-jobs.result.owners.list) (IsListed table) 0 c.requires.no_posts,
 )
 
 pub serve_on-end-requires-clause-sound : goal.serve_on-end-requires-clause-sound
-serve_on-end-requires-clause-sound g c = (first_order (g.W.World.meaning c.args.world.now) c.requires.runs c.requires.no_answers, (posted_none 0 _ _ refl c.requires.no_posts c.requires.no_answers c.requires.log).has)
+serve_on-end-requires-clause-sound g c = (first_order (g.W.World.meaning c.args.world.now) c.requires.runs c.requires.no_answers, (posted_none 0 _ _ refl c.requires.no_posts c.requires.no_answers c.requires.log).has, λ a b x. absurd (none_posted (g.W.World.meaning c.args.world.now) c.requires.no_posts a x))
 
 pub returns-clause-own : goal.returns-clause-own
 returns-clause-own g c = own_of (session job_app c.args.port) c.args.limits.idle (g.N.Net.meaning c.serve_on-end.new.net).connections (c.serve_on-end.ensures.left (λ _. job_app) (job_agrees (owner_in c.serve_on-end.new.service.owners.list) (g.W.World.meaning c.serve_on-end.new.world))).served
@@ -38,7 +39,7 @@ pub returns-clause-cause : goal.returns-clause-cause
 returns-clause-cause g c = cause_of (session job_app c.args.port) c.args.limits.idle (g.N.Net.meaning c.serve_on-end.new.net).connections (c.serve_on-end.ensures.left (λ _. job_app) (job_agrees (owner_in c.serve_on-end.new.service.owners.list) (g.W.World.meaning c.serve_on-end.new.world))).served
 
 pub returns-clause-earned : goal.returns-clause-earned
-returns-clause-earned g c = earned_by (owner_in c.serve_on-end.new.service.owners.list) (g.W.World.meaning c.serve_on-end.new.world) record { port = c.args.port; limits = c.args.limits } (g.N.Net.meaning c.serve_on-end.new.net) c.serve_on-end.ensures.left
+returns-clause-earned g c = earned_by (owner_in c.serve_on-end.new.service.owners.list) (g.W.World.meaning c.serve_on-end.new.world) record { port = c.args.port; limits = c.args.limits } (g.N.Net.meaning c.serve_on-end.new.net) c.serve_on-end.ensures.sound.2 c.serve_on-end.ensures.left
 
 pub returns-clause-most : goal.returns-clause-most
 returns-clause-most g c = (c.serve_on-end.ensures.left (λ _. job_app) (job_agrees (owner_in c.serve_on-end.new.service.owners.list) (g.W.World.meaning c.serve_on-end.new.world))).most

@@ -1,17 +1,20 @@
-use Rattle.std.proofs.Common.{ap, refl, sym, subst, ◌∙◌}
+use Rattle.std.proofs.Common.{List, ap, refl, sym, subst, ◌∙◌}
 use Rattle.std.specs.Prelude.{Option, Some, None, nat_eq}
 use Rattle.std.specs.HashMap.{get}
 use Rattle.gv_values.specs.declared.job.Answer.{Answer}
+use Rattle.world_rules.specs.declared.question.PostedJob.{PostedJob}
 use Rattle.world_rules.specs.declared.question.Question.{Question}
 use Rattle.world_rules.specs.Legal.{IsLegal}
 use Rattle.world.specs.Outside.{WorldMeaning as World, Stores}
+use Rattle.stream_server.specs.Owning.{OwnOnce}
 use Rattle.stream_server.specs.Tables.{IsListed}
 use Rattle.stream_server.specs.declared.client.Client.{Client}
 use Rattle.world.proofs.Sound.{contains_posted}
 use Rattle.wsgi_native.specs.Owning.{owner_in}
-use Rattle.wsgi_native.specs.Tied.{IsInOrder}
+use Rattle.wsgi_native.specs.Agreeing.{IsPosted}
+use Rattle.wsgi_native.specs.Tied.{HaveOwners, IsInOrder}
 use Rattle.wsgi_native.specs.declared.job_talk.JobTalk.{JobTalk}
-use Rattle.wsgi_native.proofs.Polling.{agreed_earlier, agreed_same, gives_polled, gives_tied, wants_asked}
+use Rattle.wsgi_native.proofs.Polling.{agreed_earlier, agreed_same, gives_owned, gives_polled, gives_tied, wants_asked}
 use Rattle.wsgi_native.proofs.Posting.{gives_posted, posted_asked, posted_same}
 use Rattle.wsgi_native.proofs.Tying.{stored_order, tied_silent}
 use Rattle.wsgi_native.proofs.jobs.JobsServiceJobTalk.poll.Goals as goal
@@ -39,8 +42,11 @@ pub returns-in_default-clause-fits : goal.returns-in_default-clause-fits
 returns-in_default-clause-fits g c = agreed_same (g.W.World.meaning c.args.world.now) (g.W.World.meaning c.ask.new.self) (owner_in c.args.self.now.owners.list) c.in_default.ensures.refused
 
 pub returns-in_default-clause-sound : goal.returns-in_default-clause-sound
-returns-in_default-clause-sound g c =
-    (subst (λ (w : World). IsInOrder w) (sym c.in_default.ensures.refused) c.requires.1.0.order, posted_same _ _ _ _ c.in_default.ensures.refused c.in_default.ensures.refused_log c.requires.1.1.has)
+returns-in_default-clause-sound g c = (
+  subst (λ (w : World). IsInOrder w) (sym c.in_default.ensures.refused) c.requires.1.0.order,
+  posted_same _ _ _ _ c.in_default.ensures.refused c.in_default.ensures.refused_log c.requires.1.1.has,
+  subst (λ (w : World). OwnOnce (IsPosted w.posts) (owner_in c.args.self.now.owners.list)) (sym c.in_default.ensures.refused) c.requires.1.2.once,
+)
 
 pub returns-in-Some-remove-clause-polled : goal.returns-in-Some-remove-clause-polled
 returns-in-Some-remove-clause-polled g c =
@@ -53,8 +59,10 @@ pub returns-in-Some-remove-clause-tied : goal.returns-in-Some-remove-clause-tied
 returns-in-Some-remove-clause-tied g c = λ accepted tied.
     let stored = (subst (λ (a : Answer). Stores (g.W.World.meaning c.args.world.now) (g.W.World.meaning c.ask.new.self) a) c.in-Done.is c.in-Ok.ensures.stored) in
     let right = (subst (λ (a : Answer). IsLegal (g.W.World.meaning c.args.world.now).posts (g.W.World.meaning c.args.world.now).answers Question.Poll a) c.in-Done.is c.in-Ok.ensures.legal).0.0 in
-    gives_posted _ _ _ c.give.result (posted_asked _ _ _ _ _ _ _ c.in-Ok.ensures.legal c.in-Ok.ensures.stored c.in-Ok.ensures.log tied.1) (gives_tied (g.W.World.meaning c.args.world.now) (g.W.World.meaning c.ask.new.self) (owner_in c.args.self.now.owners.list) c.args.self.now.posted (get nat_eq c.args.self.now.waiting) (get nat_eq c.remove.new.self) c.args.table.now c.remove-in-Done.new.self c.in-Some.conn c.in-Done.number c.in-Done.outcome c.in-Done.at c.in-Some-remove.client
+    gives_posted _ _ _ _ _ c.give.result (posted_asked _ _ _ _ _ _ _ c.in-Ok.ensures.legal c.in-Ok.ensures.stored c.in-Ok.ensures.log tied.1) (gives_tied (g.W.World.meaning c.args.world.now) (g.W.World.meaning c.ask.new.self) (owner_in c.args.self.now.owners.list) c.args.self.now.posted (get nat_eq c.args.self.now.waiting) (get nat_eq c.remove.new.self) c.args.table.now c.remove-in-Done.new.self c.in-Some.conn c.in-Done.number c.in-Done.outcome c.in-Done.at c.in-Some-remove.client
     stored right (sym c.remove.ensures.value ∙ c.in-Some.is) c.in-Some-remove.ensures.was c.in-Some-remove.ensures.number c.remove.ensures.updates.0 c.in-Some-remove.ensures.relists c.in-Some-remove.ensures.count c.give.result accepted tied.0 c.give.ensures.gives)
+    (gives_owned (g.W.World.meaning c.args.world.now) (g.W.World.meaning c.ask.new.self) (owner_in c.args.self.now.owners.list) c.args.self.now.posted (get nat_eq c.args.self.now.waiting) (get nat_eq c.remove.new.self) c.args.table.now c.remove-in-Done.new.self c.in-Some.conn c.in-Done.number c.in-Done.outcome c.in-Done.at c.in-Some-remove.client
+    stored right (sym c.remove.ensures.value ∙ c.in-Some.is) c.in-Some-remove.ensures.was c.in-Some-remove.ensures.number c.remove.ensures.updates.0 c.in-Some-remove.ensures.relists c.in-Some-remove.ensures.count c.give.result accepted tied.2 c.give.ensures.gives)
 
 pub returns-in-Some-remove-clause-fits : goal.returns-in-Some-remove-clause-fits
 returns-in-Some-remove-clause-fits g c = agreed_earlier (g.W.World.meaning c.args.world.now) (g.W.World.meaning c.ask.new.self) (owner_in c.args.self.now.owners.list) c.in-Ok.answer c.in-Ok.ensures.stored
@@ -65,6 +73,7 @@ returns-in-Some-remove-clause-sound g c =
     let right = (subst (λ (a : Answer). IsLegal (g.W.World.meaning c.args.world.now).posts (g.W.World.meaning c.args.world.now).answers Question.Poll a) c.in-Done.is c.in-Ok.ensures.legal).0.0 in (
       stored_order (g.W.World.meaning c.args.world.now) (g.W.World.meaning c.ask.new.self) c.in-Done.number c.in-Done.outcome c.in-Done.at c.requires.1.0.order stored right,
       (posted_asked _ _ _ _ _ _ _ c.in-Ok.ensures.legal c.in-Ok.ensures.stored c.in-Ok.ensures.log c.requires.1.1).has,
+      subst (λ (z : List PostedJob). OwnOnce (IsPosted z) (owner_in c.args.self.now.owners.list)) (sym c.in-Ok.ensures.stored.posts) c.requires.1.2.once,
     )
 
 pub returns-in-Nothing-clause-tied : goal.returns-in-Nothing-clause-tied
@@ -72,6 +81,7 @@ returns-in-Nothing-clause-tied g c = λ accepted tied. (
   tied_silent (g.W.World.meaning c.args.world.now) (g.W.World.meaning c.ask.new.self) (owner_in c.args.self.now.owners.list) c.args.self.now.posted (get nat_eq c.args.self.now.waiting) (IsListed c.args.table.now) accepted (Answer.Nothing c.in-Nothing.at) tied.0
       (subst (λ (a : Answer). Stores (g.W.World.meaning c.args.world.now) (g.W.World.meaning c.ask.new.self) a) c.in-Nothing.is c.in-Ok.ensures.stored) (λ n. refl),
   posted_asked _ _ _ _ _ _ _ c.in-Ok.ensures.legal c.in-Ok.ensures.stored c.in-Ok.ensures.log tied.1,
+  subst (λ (z : List PostedJob). HaveOwners z (owner_in c.args.self.now.owners.list) (IsListed c.args.table.now) accepted) (sym c.in-Ok.ensures.stored.posts) tied.2,
 )
 
 pub returns-in-Nothing-clause-sound : goal.returns-in-Nothing-clause-sound
@@ -79,6 +89,7 @@ returns-in-Nothing-clause-sound g c = (
   (tied_silent (g.W.World.meaning c.args.world.now) (g.W.World.meaning c.ask.new.self) (owner_in c.args.self.now.owners.list) c.args.self.now.posted (get nat_eq c.args.self.now.waiting) (IsListed c.args.table.now) c.requires.0 (Answer.Nothing c.in-Nothing.at) c.requires.1.0
       (subst (λ (a : Answer). Stores (g.W.World.meaning c.args.world.now) (g.W.World.meaning c.ask.new.self) a) c.in-Nothing.is c.in-Ok.ensures.stored) (λ n. refl)).order,
   (posted_asked _ _ _ _ _ _ _ c.in-Ok.ensures.legal c.in-Ok.ensures.stored c.in-Ok.ensures.log c.requires.1.1).has,
+  subst (λ (z : List PostedJob). OwnOnce (IsPosted z) (owner_in c.args.self.now.owners.list)) (sym c.in-Ok.ensures.stored.posts) c.requires.1.2.once,
 )
 
 pub returns-in-Nothing-clause-fits : goal.returns-in-Nothing-clause-fits
