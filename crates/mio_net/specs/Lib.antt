@@ -1,1 +1,3 @@
+pub mod Annals
+pub mod Dialled
 pub mod Endpoints

@@ -24,7 +24,7 @@ use std::time::{Duration, Instant};
 use stream_net::{Accepted, Account, Net, Ports, ReadEnd, Ready, WriteEnd};
 
 /// How many events one poll takes.
-const EVENTS: usize = 256;
+pub(crate) const EVENTS: usize = 256;
 
 /// The most connections that are accepted, so that each has a number.
 const MOST_NUMBERED: usize = 4294967295;
@@ -128,7 +128,7 @@ fn watches(poll: &Option<Poll>, descriptor: Option<RawFd>) -> bool {
 }
 
 /// The milliseconds since the start, or as many as before where the clock gives fewer or none.
-fn reading<R: Clock>(rt: &R, start: &Option<Instant>, before: u64) -> u64
+pub(crate) fn reading<R: Clock>(rt: &R, start: &Option<Instant>, before: u64) -> u64
     ensures { before ≤ result }
 {
     let Some(start) = start else {

@@ -2,7 +2,7 @@
 //!
 //! Trusted: that a stream gives and is given the bytes that the two calls on it note, who is accepted, and what a poll
 //! tells.
-ghost use Rattle.std.specs.Prelude.{◌≡◌, ◌≢◌, ◌<◌, ◌≤◌, ℕ, [], length, Some};
+ghost use Rattle.std.specs.Prelude.{◌≡◌, ◌≢◌, ◌<◌, ◌≤◌, ℕ, [], length, Some, Ok};
 ghost use Rattle.stream_net.specs.Accounts.{read_after};
 ghost use Rattle.stream_net.specs.Taken.{written_after};
 
@@ -16,7 +16,7 @@ use std::time::Duration;
 use stream_net::{ReadEnd, Ready, WriteEnd};
 
 /// How often a call that a signal interrupted is made again.
-const TRIES: usize = 16;
+pub(crate) const TRIES: usize = 16;
 
 /// The token of the listener.
 pub const LISTENER: Token = Token(usize::MAX);
@@ -108,6 +108,36 @@ pub fn write_stream(wire: &mut Wire, bytes: &[u8]) -> WriteEnd
     end
 }
 
+/// What a read of the system led to; none where it is to be made again.
+pub(crate) fn end_of_read(read: Result<usize, Error>) -> Option<ReadEnd>
+    ensures { (n : ℕ) → result ≡ Some (ReadEnd.Got n) → (0 < n) × (read ≡ Ok n) }
+{
+    match read {
+        Ok(0) => Some(ReadEnd::End),
+        Ok(count) => Some(ReadEnd::Got(count)),
+        Err(error) => match error.kind() {
+            ErrorKind::WouldBlock => Some(ReadEnd::WouldBlock),
+            ErrorKind::Interrupted => None,
+            _ => Some(ReadEnd::Failed),
+        },
+    }
+}
+
+/// What a write to the system led to; none where it is to be made again.
+pub(crate) fn end_of_write(written: Result<usize, Error>) -> Option<WriteEnd>
+    ensures { (n : ℕ) → result ≡ Some (WriteEnd.Took n) → (0 < n) × (written ≡ Ok n) }
+{
+    match written {
+        Ok(0) => Some(WriteEnd::Failed),
+        Ok(count) => Some(WriteEnd::Took(count)),
+        Err(error) => match error.kind() {
+            ErrorKind::WouldBlock => Some(WriteEnd::WouldBlock),
+            ErrorKind::Interrupted => None,
+            _ => Some(WriteEnd::Failed),
+        },
+    }
+}
+
 /// Reads what came.
 fn read_system(stream: &Option<TcpStream>, buf: &mut [u8]) -> ReadEnd
     requires { 0 < length buf.old }
@@ -119,14 +149,8 @@ fn read_system(stream: &Option<TcpStream>, buf: &mut [u8]) -> ReadEnd
     };
     let mut stream = stream;
     for _ in 0..TRIES {
-        match stream.read(buf) {
-            Ok(0) => return ReadEnd::End,
-            Ok(count) => return ReadEnd::Got(count),
-            Err(error) => match error.kind() {
-                ErrorKind::WouldBlock => return ReadEnd::WouldBlock,
-                ErrorKind::Interrupted => {}
-                _ => return ReadEnd::Failed,
-            },
+        if let Some(end) = end_of_read(stream.read(buf)) {
+            return end;
         }
     }
     ReadEnd::Failed
@@ -143,14 +167,8 @@ fn write_system(stream: &Option<TcpStream>, bytes: &[u8]) -> WriteEnd
     };
     let mut stream = stream;
     for _ in 0..TRIES {
-        match stream.write(bytes) {
-            Ok(0) => return WriteEnd::Failed,
-            Ok(count) => return WriteEnd::Took(count),
-            Err(error) => match error.kind() {
-                ErrorKind::WouldBlock => return WriteEnd::WouldBlock,
-                ErrorKind::Interrupted => {}
-                _ => return WriteEnd::Failed,
-            },
+        if let Some(end) = end_of_write(stream.write(bytes)) {
+            return end;
         }
     }
     WriteEnd::Failed
