@@ -94,7 +94,7 @@ fn declared_leaves(
     let mut text = Vec::new(alloc);
     text.extend_from_slice(profile)?;
     push_numbered(&mut text, objects, b"event e", b"\n")?;
-    push_numbered(&mut text, functions - 1, b"def f", b"\nend\n")?;
+    push_numbered(&mut text, functions.saturating_sub(1), b"def f", b"\nend\n")?;
     text.extend_from_slice(b"def main\nprint 1\nend\n")?;
     leaves(alloc, &text, left)
 }
