@@ -21,12 +21,32 @@ fn greenlet_limit(rt: HostRuntime) {
     assert!(rt; holds(rt.alloc(), &SPAWNS_WITHOUT_END) == Ok(true));
 }
 
-/// What a run leaves: its status, and its bytes on out and err.
-type Left = (u8, &'static [u8], &'static [u8]);
+/// What a run leaves.
+#[derive(Clone, Copy)]
+struct Left {
+    status: u8,
+    out: &'static [u8],
+    err: &'static [u8],
+}
+
+/// What a run of the text of one print leaves.
+const ONE_PRINT: Left = Left {
+    status: 0,
+    out: PRINTED_ONE,
+    err: b"",
+};
+
+/// What the refusal of a text leaves.
+fn refusal(err: &'static [u8]) -> Left {
+    Left {
+        status: 3,
+        out: b"",
+        err,
+    }
+}
 
 /// Whether a run of the text leaves this.
 fn leaves(alloc: Global, text: &[u8], left: Left) -> Result<bool, AllocError> {
-    let (status, out, err) = left;
     let row = Row {
         name: "",
         words: "run",
@@ -35,9 +55,9 @@ fn leaves(alloc: Global, text: &[u8], left: Left) -> Result<bool, AllocError> {
         failing: &[],
         room: 1000,
         err_room: 1000,
-        status,
-        out,
-        err,
+        status: left.status,
+        out: left.out,
+        err: left.err,
     };
     holds(alloc, &row)
 }
@@ -51,20 +71,20 @@ fn remark_leaves(alloc: Global, text: &[u8], bytes: usize, left: Left) -> Result
 #[test]
 fn text_limit(rt: HostRuntime) {
     let text = b"def main\nprint 1\nend\n#";
-    let longest = remark_leaves(rt.alloc(), text, 1048553, (0, PRINTED_ONE, b""));
+    let longest = remark_leaves(rt.alloc(), text, 1048553, ONE_PRINT);
     assert!(rt; longest == Ok(true));
     let line = b"gvr: line 4: reason 1: text longer than 1048576 bytes\n";
-    let longer = remark_leaves(rt.alloc(), text, 1048554, (3, b"", line));
+    let longer = remark_leaves(rt.alloc(), text, 1048554, refusal(line));
     assert!(rt; longer == Ok(true));
 }
 
 #[test]
 fn long_text_limit(rt: HostRuntime) {
     let text = b"profile 3\ndef main\nprint 1\nend\n#";
-    let longest = remark_leaves(rt.alloc(), text, 16777183, (0, PRINTED_ONE, b""));
+    let longest = remark_leaves(rt.alloc(), text, 16777183, ONE_PRINT);
     assert!(rt; longest == Ok(true));
     let line = b"gvr: line 5: reason 26: text longer than 16777216 bytes\n";
-    let longer = remark_leaves(rt.alloc(), text, 16777184, (3, b"", line));
+    let longer = remark_leaves(rt.alloc(), text, 16777184, refusal(line));
     assert!(rt; longer == Ok(true));
 }
 
@@ -94,37 +114,31 @@ fn declared_leaves(
     let mut text = Vec::new(alloc);
     text.extend_from_slice(profile)?;
     push_numbered(&mut text, objects, b"event e", b"\n")?;
-    push_numbered(&mut text, functions - 1, b"def f", b"\nend\n")?;
+    push_numbered(&mut text, functions.saturating_sub(1), b"def f", b"\nend\n")?;
     text.extend_from_slice(b"def main\nprint 1\nend\n")?;
     leaves(alloc, &text, left)
 }
 
 #[test]
 fn limit_of_declarations(rt: HostRuntime) {
-    let most = declared_leaves(rt.alloc(), b"profile 2\n", 256, 256, (0, PRINTED_ONE, b""));
+    let most = declared_leaves(rt.alloc(), b"profile 2\n", 256, 256, ONE_PRINT);
     assert!(rt; most == Ok(true));
     let objects = b"gvr: line 258: reason 22: too many declarations\n";
-    let more = declared_leaves(rt.alloc(), b"profile 2\n", 257, 1, (3, b"", objects));
+    let more = declared_leaves(rt.alloc(), b"profile 2\n", 257, 1, refusal(objects));
     assert!(rt; more == Ok(true));
     let functions = b"gvr: line 514: reason 22: too many declarations\n";
-    let more = declared_leaves(rt.alloc(), b"profile 2\n", 0, 257, (3, b"", functions));
+    let more = declared_leaves(rt.alloc(), b"profile 2\n", 0, 257, refusal(functions));
     assert!(rt; more == Ok(true));
 }
 
 #[test]
 fn limit_of_declarations_in_profile_3(rt: HostRuntime) {
-    let most = declared_leaves(
-        rt.alloc(),
-        b"profile 3\n",
-        20000,
-        20000,
-        (0, PRINTED_ONE, b""),
-    );
+    let most = declared_leaves(rt.alloc(), b"profile 3\n", 20000, 20000, ONE_PRINT);
     assert!(rt; most == Ok(true));
     let objects = b"gvr: line 20002: reason 22: too many declarations\n";
-    let more = declared_leaves(rt.alloc(), b"profile 3\n", 20001, 1, (3, b"", objects));
+    let more = declared_leaves(rt.alloc(), b"profile 3\n", 20001, 1, refusal(objects));
     assert!(rt; more == Ok(true));
     let functions = b"gvr: line 40002: reason 22: too many declarations\n";
-    let more = declared_leaves(rt.alloc(), b"profile 3\n", 0, 20001, (3, b"", functions));
+    let more = declared_leaves(rt.alloc(), b"profile 3\n", 0, 20001, refusal(functions));
     assert!(rt; more == Ok(true));
 }

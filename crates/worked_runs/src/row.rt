@@ -106,26 +106,17 @@ fn line_count(bytes: &[u8]) -> usize {
     count
 }
 
-/// Where the line `profile 2` begins.
-fn profile_line(text: &[u8]) -> Option<usize> {
-    for at in 0..text.len() {
-        if text[at..].starts_with(PROFILE_2) {
-            return Some(at);
-        }
-    }
-    None
-}
-
 /// The text with `profile 3` as its first line, and without the line `profile 2`.
 fn in_profile_3(alloc: Global, text: &[u8]) -> Result<Vec<u8>, AllocError> {
     let mut made = Vec::from_slice(alloc, PROFILE_3)?;
-    match profile_line(text) {
-        Some(at) => {
+    for at in 0..text.len() {
+        if let Some(behind) = text[at..].strip_prefix(PROFILE_2) {
             made.extend_from_slice(&text[..at])?;
-            made.extend_from_slice(text[at..].strip_prefix(PROFILE_2).unwrap_or(&[]))?;
+            made.extend_from_slice(behind)?;
+            return Ok(made);
         }
-        None => made.extend_from_slice(text)?,
     }
+    made.extend_from_slice(text)?;
     Ok(made)
 }
 
