@@ -30,6 +30,7 @@ pub(crate) struct Builder {
 }
 
 impl Builder {
+    /// Before the first line: a text has profile 1 unless its first line says otherwise.
     pub(crate) fn new(alloc: Global) -> Builder
         ensures { building result ≡ nothing_yet }
     {

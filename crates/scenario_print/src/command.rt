@@ -14,6 +14,7 @@ use scenario_grammar::Keyword;
 use scenario_tree::Command;
 use std::alloc::AllocError;
 
+/// The words of a statement that gives no value.
 pub(crate) fn push_command(command: &Command, out: &mut Vec<u8>) -> Result<(), AllocError>
     ensures { WroteLine out.old.items out.new.items result (command_tokens command.now) }
 {

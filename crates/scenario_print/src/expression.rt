@@ -84,6 +84,7 @@ fn push_fault(kind: FaultKind, out: &mut Vec<u8>) -> Result<(), AllocError>
     }
 }
 
+/// An expression that is no operand of another.
 pub(crate) fn push_expression(e: &Expression, out: &mut Vec<u8>) -> Result<(), AllocError>
     ensures { Wrote out.old.items out.new.items result (expression e.now) }
 {
@@ -142,6 +143,7 @@ fn push_operands(items: &[Expression], out: &mut Vec<u8>) -> Result<(), AllocErr
     Ok(())
 }
 
+/// Such expressions, one after another.
 pub(crate) fn push_expressions(
     items: &Items<Expression>,
     out: &mut Vec<u8>,

@@ -133,6 +133,7 @@ fn push_target(n: &Name, out: &mut Vec<u8>) -> Result<(), AllocError>
     out.extend_from_slice(b" <- ")
 }
 
+/// The words of a statement that gives a value, behind the name that takes it where there is one.
 pub(crate) fn push_given(
     target: &Option<Name>,
     giving: &Giving,

@@ -75,6 +75,7 @@ pub(crate) fn push_marked(
     }
 }
 
+/// `within` and the time, `now`, or nothing.
 pub(crate) fn push_wait(wait: Wait, out: &mut Vec<u8>) -> Result<(), AllocError>
     ensures { Wrote out.old.items out.new.items result (wait_tokens wait) }
 {
@@ -85,6 +86,7 @@ pub(crate) fn push_wait(wait: Wait, out: &mut Vec<u8>) -> Result<(), AllocError>
     }
 }
 
+/// A fixed word, where it is to stand there.
 pub(crate) fn push_flag(word: Keyword, is_set: bool, out: &mut Vec<u8>) -> Result<(), AllocError>
     ensures { Wrote out.old.items out.new.items result (flag word is_set) }
 {

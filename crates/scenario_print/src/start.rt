@@ -17,6 +17,7 @@ use scenario_grammar::Keyword;
 use scenario_tree::{Expression, Timed, Wait};
 use std::alloc::AllocError;
 
+/// A first word, and a name.
 pub(crate) fn start_name(word: Keyword, n: &Name, out: &mut Vec<u8>) -> Result<(), AllocError>
     ensures { Started out.old.items out.new.items result word (name n.now) }
 {
@@ -24,6 +25,7 @@ pub(crate) fn start_name(word: Keyword, n: &Name, out: &mut Vec<u8>) -> Result<(
     push_name(n, out)
 }
 
+/// A first word and a number, which is to be from least to greatest.
 pub(crate) fn start_number(word: Keyword, number: u32, out: &mut Vec<u8>) -> Result<(), AllocError>
     ensures words { (least greatest : ℕ) → Started out.old.items out.new.items result word (in_range least greatest number) }
     ensures front { BeginsWith out.new.items out.old.items }
@@ -32,6 +34,7 @@ pub(crate) fn start_number(word: Keyword, number: u32, out: &mut Vec<u8>) -> Res
     push_number(u64::from(number), out)
 }
 
+/// A first word, and an expression.
 pub(crate) fn start_expression(
     word: Keyword,
     e: &Expression,
@@ -43,6 +46,7 @@ pub(crate) fn start_expression(
     push_expression(e, out)
 }
 
+/// A first word, and two expressions.
 pub(crate) fn start_expressions(
     word: Keyword,
     e: &Expression,
@@ -55,6 +59,7 @@ pub(crate) fn start_expressions(
     push_expression(f, out)
 }
 
+/// A first word, a name, and an expression.
 pub(crate) fn start_name_expression(
     word: Keyword,
     n: &Name,
@@ -67,6 +72,7 @@ pub(crate) fn start_name_expression(
     push_expression(e, out)
 }
 
+/// A first word, a name, and how long is waited.
 pub(crate) fn start_name_wait(
     word: Keyword,
     n: &Name,
@@ -79,6 +85,7 @@ pub(crate) fn start_name_wait(
     push_wait(wait, out)
 }
 
+/// A first word, a name, and at most how long is waited.
 pub(crate) fn start_name_timed(
     word: Keyword,
     n: &Name,

@@ -46,6 +46,7 @@ pub(crate) fn push_profile_line(profile: u8, out: &mut Vec<u8>) -> Result<(), Al
     push_line_end(out)
 }
 
+/// The line of a declaration.
 pub(crate) fn push_declaration_line(
     declaration: &Declaration,
     out: &mut Vec<u8>,
@@ -56,6 +57,7 @@ pub(crate) fn push_declaration_line(
     push_line_end(out)
 }
 
+/// The line that begins a function.
 pub(crate) fn push_function_line(function: &Function, out: &mut Vec<u8>) -> Result<(), AllocError>
     ensures { WroteTreeLine out.old.items out.new.items result 0 (phrase.Function function.now.is_raw function.now.name function.now.parameters) }
 {
@@ -68,6 +70,7 @@ pub(crate) fn push_function_line(function: &Function, out: &mut Vec<u8>) -> Resu
     push_line_end(out)
 }
 
+/// The line of a statement that gives no value.
 pub(crate) fn push_command_line(
     level: usize,
     command: &Command,
@@ -80,6 +83,7 @@ pub(crate) fn push_command_line(
     push_line_end(out)
 }
 
+/// The line of a statement that gives a value.
 pub(crate) fn push_giving_line(
     level: usize,
     target: &Option<Name>,
@@ -93,6 +97,7 @@ pub(crate) fn push_giving_line(
     push_line_end(out)
 }
 
+/// The line that opens an `if`.
 pub(crate) fn push_if_line(
     level: usize,
     e: &Expression,
@@ -105,6 +110,7 @@ pub(crate) fn push_if_line(
     push_line_end(out)
 }
 
+/// The line that opens a `while`.
 pub(crate) fn push_while_line(
     level: usize,
     e: &Expression,
@@ -130,6 +136,7 @@ pub(crate) fn push_fixed_line(
     push_line_end(out)
 }
 
+/// The line of an except.
 pub(crate) fn push_except_line(
     level: usize,
     class: Class,
@@ -143,6 +150,7 @@ pub(crate) fn push_except_line(
     push_line_end(out)
 }
 
+/// The line that opens a timeout block.
 pub(crate) fn push_timeout_line(
     level: usize,
     after: Option<u32>,

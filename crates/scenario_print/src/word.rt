@@ -26,12 +26,14 @@ fn push_word(word: &[u8], out: &mut Vec<u8>) -> Result<(), AllocError>
     out.extend_from_slice(word)
 }
 
+/// A fixed word that begins no line.
 pub(crate) fn push_fixed(word: Keyword, out: &mut Vec<u8>) -> Result<(), AllocError>
     ensures { Wrote out.old.items out.new.items result (fixed word) }
 {
     push_word(keyword_text(word), out)
 }
 
+/// A name.
 pub(crate) fn push_name(n: &Name, out: &mut Vec<u8>) -> Result<(), AllocError>
     ensures { Wrote out.old.items out.new.items result (name n.now) }
 {
@@ -45,6 +47,7 @@ pub(crate) fn push_number(n: u64, out: &mut Vec<u8>) -> Result<(), AllocError>
     push_word(Buffer::new().format(n).as_bytes(), out)
 }
 
+/// An integer.
 pub(crate) fn push_integer(n: i64, out: &mut Vec<u8>) -> Result<(), AllocError>
     ensures { Wrote out.old.items out.new.items result (integer n) }
 {
