@@ -10,3 +10,4 @@ pub mod JudgeLaws
 pub mod RequestLaws
 pub mod RequestSteps
 pub mod ScanLaws
+pub mod TagLaws

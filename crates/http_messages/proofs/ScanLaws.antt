@@ -1,8 +1,12 @@
 -- What scans for line ends keep.
-use Rattle.std.proofs.Common.{◌≡◌, ℕ, zero, suc, ◌+◌, ◌<◌, ◌≤◌, Bool, true, false, ◌&&◌, cond, List, [], ◌∷◌, ◌++◌, length, take, drop, refl, sym, ap, ◌∙◌, subst, arith, append-nil, get_or, drop-cons, Option, Some, None, inl, inr}
-use Rattle.std.proofs.lemmas.Bool.{cases_Bool, cond_both, cond-true, cond-false, eqb-true}
+use Rattle.std.proofs.Common.{◌≡◌, ℕ, zero, suc, ◌+◌, ◌-◌, ◌<◌, ◌≤◌, Bool, true, false, ◌&&◌, cond, List, [], ◌∷◌, ◌++◌, length, take, drop, refl, sym, ap, ◌∙◌, subst, arith, append-nil, append_assoc, length-drop, le_refl, get_or, drop-cons, Option, Some, None, inl, inr}
+use Rattle.std.proofs.lemmas.Bool.{cases_Bool, cond_both, cond-true, cond-false, eqb-true, false_from_ne_true}
 use Rattle.std.proofs.lemmas.List.{take_more, take-append-drop, take_all}
-use Rattle.std.specs.Prelude.{option_map, nat_lt, ◌==◌}
+use Rattle.std.proofs.lemmas.List.Sums.{position_or_len_is, prefix_len-le-length}
+use Rattle.std.proofs.Math.Seq.{take-add}
+use Rattle.std.specs.Prelude.{option_map, nat_lt, not, ◌==◌}
+use Rattle.std.specs.List.{position_or_len}
+use Rattle.memchr.specs.Find.{NoneBefore, Nowhere, Passes, is_byte}
 use Rattle.http_messages.specs.declared.scan.LinePlace.{LinePlace}
 use Rattle.http_messages.specs.declared.scan.LinePlace.TheVariants.{Start, AfterReturn, Within}
 use Rattle.http_messages.specs.Cuts.{is_lf, empty_line, empty_line_end, line_end}
@@ -97,15 +101,82 @@ scan_none place bytes at all h =
     sym (sym (scanned_is bytes) ∙ ap (scanned_end Start) (sym same ∙ sym (append-nil front)) ∙ h []
     ∙ ap (option_map (λ n. n + length front)) (scanned_nil place))
 
+-- all that stands behind a place
+pub take_rest : (bytes : List ℕ) (at : ℕ) → take (length bytes - at) (drop at bytes) ≡ drop at bytes
+take_rest bytes at = take_all (length bytes - at) (drop at bytes) (rw length-drop (omega arith))
+
+none_more : (o : Option ℕ) → o ≡ option_map (λ n. n + 0) o
+none_more None = refl
+none_more (Some n) = ap (λ (k : ℕ). Some k) (omega arith)
+
+-- within a line up to its LF, or to the end of the bytes
+line_on : (rest more : List ℕ) → scanned_end Within (take (position_or_len is_lf rest) rest ++ more)
+    ≡ option_map (λ n. n + position_or_len is_lf rest) (scanned_end Within more)
+line_on [] more = none_more (scanned_end Within more)
+line_on (b ∷ rest) more = on (line_on rest more) (is_lf b) refl
+  where
+    len : ℕ
+    len = position_or_len is_lf rest
+
+    one : (o : Option ℕ) (m : ℕ) → one_more (option_map (λ n. n + m) o) ≡ option_map (λ n. n + suc m) o
+    one None m = refl
+    one (Some n) m = ap (λ (k : ℕ). Some k) (omega arith)
+
+    past : scanned_end Within (take len rest ++ more) ≡ option_map (λ n. n + len) (scanned_end Within more) → is_lf b ≡ false → (k : ℕ) → k ≡ suc len
+        → scanned_end Within (take k (b ∷ rest) ++ more) ≡ option_map (λ n. n + k) (scanned_end Within more)
+    past later e k is =
+        let P : ℕ → Type 0 = λ j. scanned_end Within (take j (b ∷ rest) ++ more) ≡ option_map (λ n. n + j) (scanned_end Within more) in
+        subst P (sym is)
+        (ap (λ (t : Bool). one_more (scanned_end (cond t Start Within) (take len rest ++ more))) e
+        ∙ ap one_more later ∙ one (scanned_end Within more) len)
+
+    on : scanned_end Within (take len rest ++ more) ≡ option_map (λ n. n + len) (scanned_end Within more) → (t : Bool) → is_lf b ≡ t
+        → scanned_end Within (take (cond (not t) (1 + len) 0) (b ∷ rest) ++ more) ≡ option_map (λ n. n + cond (not t) (1 + len) 0) (scanned_end Within more)
+    on later true e = none_more (scanned_end Within more)
+    on later false e = past later e (1 + len) (omega arith)
+
+pub line_skipped : (bytes : List ℕ) (at : ℕ) → at ≤ length bytes → Resumes Start (take at bytes) Within
+    → Resumes Start (take (at + position_or_len is_lf (drop at bytes)) bytes) Within
+line_skipped bytes at inside h =
+    let rest = drop at bytes in
+    let n = position_or_len is_lf rest in
+    let front = take at bytes in
+    let part = take n rest in
+    let short : n ≤ length rest = prefix_len-le-length (λ b. not (is_lf b)) rest in
+    let fits : at + n ≤ length bytes = omega (arith, short, length-drop at bytes) in
+    let long : length (take (at + n) bytes) ≡ n + length front = omega (arith, length_take (at + n) bytes fits, length_take at bytes inside) in
+    λ more.
+    ap (λ (l : List ℕ). scanned_end Start (l ++ more)) (take-add at n bytes)
+    ∙ ap (scanned_end Start) (append_assoc front part more)
+    ∙ h (part ++ more)
+    ∙ ap (option_map (λ k. k + length front)) (line_on rest more)
+    ∙ both (scanned_end Within more) n (length front)
+    ∙ ap (λ (k : ℕ). option_map (λ i. i + k) (scanned_end Within more)) (sym long)
+  where
+    both : (o : Option ℕ) (n m : ℕ) → option_map (λ k. k + m) (option_map (λ k. k + n) o) ≡ option_map (λ i. i + (n + m)) o
+    both None n m = refl
+    both (Some k) n m = ap (λ (i : ℕ). Some i) (omega arith)
+
+-- ---- a search for a byte
+
+pub place_is : (byte : ℕ) (bytes : List ℕ) (at : ℕ) → NoneBefore (Passes (is_byte byte) bytes) 0 (length bytes) at → Passes (is_byte byte) bytes at
+    → at ≡ position_or_len (λ b. b == byte) bytes
+place_is byte bytes at none here =
+    let low : at < length bytes = none.high in
+    sym (position_or_len_is (λ b. b == byte) bytes at 0 (omega arith)
+    (λ k lt. false_from_ne_true (get_or bytes k 0 == byte) (none.before k (omega arith) lt)) (λ _. here))
+
+pub place_none : (byte : ℕ) (bytes : List ℕ) → Nowhere (Passes (is_byte byte) bytes) 0 (length bytes)
+    → length bytes ≡ position_or_len (λ b. b == byte) bytes
+place_none byte bytes none =
+    sym (position_or_len_is (λ b. b == byte) bytes (length bytes) 0 (le_refl (length bytes))
+    (λ k lt. false_from_ne_true (get_or bytes k 0 == byte) (none k (omega arith) lt)) (λ lt. absurd (omega arith)))
+
 -- ---- the first line
 
 -- where no line ends in the front, the first one ends behind it
 pub line_behind : (front rest : List ℕ) → line_end front ≡ None → line_end (front ++ rest) ≡ option_map (λ n. n + length front) (line_end rest)
-line_behind [] rest e = same (line_end rest)
-  where
-    same : (o : Option ℕ) → o ≡ option_map (λ n. n + 0) o
-    same None = refl
-    same (Some n) = ap (λ (k : ℕ). Some k) (omega arith)
+line_behind [] rest e = none_more (line_end rest)
 line_behind (b ∷ front) rest e =
     cond_both (is_lf b) (Some 1) (one_more (line_end front))
     (λ o. o ≡ None → cond (is_lf b) (Some 1) (one_more (line_end (front ++ rest))) ≡ option_map (λ n. n + suc (length front)) (line_end rest))

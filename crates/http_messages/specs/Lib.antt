@@ -7,4 +7,5 @@ pub mod Laws
 pub mod Readings
 pub mod Requests
 pub mod Scans
+pub mod Tags
 pub mod AwaitedBody

@@ -1,11 +1,12 @@
 //! The environ of a request (PEP 3333): keys and values in order.
-ghost use Rattle.std.specs.Prelude.{◌≡◌, ◌++◌, [], ◌∷◌, false, fold, IfOk, OnOk, codes, decimal, if◌then◌else◌};
+ghost use Rattle.std.specs.Prelude.{◌≡◌, ◌<◌, ◌++◌, [], ◌∷◌, false, fold, IfOk, OnOk, codes, decimal, if◌then◌else◌};
 ghost use Rattle.std.specs.List.{after_first, before_first, list_any, position};
 ghost use Rattle.std.specs.Option.{option_copied};
 ghost use Rattle.std.specs.Str.{bytes_eq};
 ghost use Rattle.percent_encoding.specs.Percent.{percent_decode};
 ghost use Rattle.http_messages.specs.Environ.{environ_of, field_pairs, is_in, is_content_key, is_question, is_underscore, joint, key_byte, key_of, pair_value, pairs_of_class, path_of, request_pairs, with_pair};
 ghost use Rattle.http_messages.specs.Fields.{is_of};
+ghost use Rattle.http_messages.specs.Tags.{AreMarked, tag_of};
 
 use crate::fields::{Fields, Head};
 use crate::request::{Bytes, Headers};
@@ -68,6 +69,73 @@ impl Environ {
         }
         None
     }
+}
+
+/// How many tags keys have.
+const TAGS: usize = 256;
+
+/// How many pairs of an environ come from no field.
+const REQUEST_PAIRS: usize = 7;
+
+/// Pairs that are added one after the other. The tag of each key has a mark, so that a key whose tag has none is new.
+#[derive(Drop)]
+struct Gathered {
+    pairs: Vec<(Bytes, Bytes)>,
+    marks: [u8; TAGS],
+}
+
+impl Gathered {
+    /// No pairs, with room for so many.
+    fn new(alloc: Global, room: usize) -> Result<Gathered, AllocError>
+        ensures none { IfOk result (λ new. new.pairs.items ≡ []) }
+        ensures marked { IfOk result (λ new. AreMarked new.marks new.pairs.items) }
+    {
+        Ok(Gathered {
+            pairs: Vec::with_capacity(alloc, room)?,
+            marks: [0; TAGS],
+        })
+    }
+
+    /// The environ of the pairs.
+    fn into_environ(self) -> Environ
+        ensures { result ≡ self.pairs.items }
+    {
+        let Gathered { pairs, .. } = self;
+        Environ { pairs }
+    }
+
+    /// Where the first pair with the key stands.
+    fn find(&self, key: &[u8]) -> Option<usize>
+        requires { AreMarked self.now.marks self.now.pairs.items }
+        ensures { result ≡ position (λ p. bytes_eq p.0 key.now) self.now.pairs.items }
+    {
+        if self.marks[tag_of(key)] == 0 {
+            return None;
+        }
+        find_key(&self.pairs, key)
+    }
+
+    /// Appends a pair.
+    fn push(&mut self, alloc: Global, key: &[u8], value: &[u8]) -> Result<(), AllocError>
+        requires { AreMarked self.old.marks self.old.pairs.items }
+        ensures pushed { OnOk result (self.new.pairs.items ≡ self.old.pairs.items ++ (key.now, value.now) ∷ []) }
+        ensures marked { OnOk result (AreMarked self.new.marks self.new.pairs.items) }
+    {
+        self.marks[tag_of(key)] = 1;
+        push_pair(alloc, &mut self.pairs, key, value)
+    }
+
+    /// Adds a pair: its value goes on behind the one that its key has.
+    fn put(&mut self, alloc: Global, key: &[u8], value: &[u8]) -> Result<(), AllocError>
+        requires { AreMarked self.old.marks self.old.pairs.items }
+        ensures put { OnOk result (self.new.pairs.items ≡ with_pair self.old.pairs.items (key.now, value.now)) }
+        ensures marked { OnOk result (AreMarked self.new.marks self.new.pairs.items) }
+    {
+        match self.find(key) {
+            Some(place) => lengthen(&mut self.pairs[place].1, joint(key), value),
+            None => self.push(alloc, key, value),
+        }
+    }
 
     /// Adds the fields whose keys are of this class, in order; `key` is room to write them.
     fn add_fields(
@@ -77,7 +145,9 @@ impl Environ {
         fields: &Fields<'_>,
         class: KeyClass,
     ) -> Result<(), AllocError>
-        ensures { OnOk result (self.new ≡ fold with_pair self.old (pairs_of_class class (field_pairs fields.now))) }
+        requires { AreMarked self.old.marks self.old.pairs.items }
+        ensures added { OnOk result (self.new.pairs.items ≡ fold with_pair self.old.pairs.items (pairs_of_class class (field_pairs fields.now))) }
+        ensures marked { OnOk result (AreMarked self.new.marks self.new.pairs.items) }
     {
         for place in 0..fields.len() {
             let field = fields.at(place);
@@ -95,7 +165,9 @@ impl Environ {
         value: &[u8],
         class: KeyClass,
     ) -> Result<(), AllocError>
-        ensures { OnOk result (self.new ≡ (if is_of class name.now then with_pair self.old (key_of name.now, value.now) else self.old)) }
+        requires { AreMarked self.old.marks self.old.pairs.items }
+        ensures added { OnOk result (self.new.pairs.items ≡ (if is_of class name.now then with_pair self.old.pairs.items (key_of name.now, value.now) else self.old.pairs.items)) }
+        ensures marked { OnOk result (AreMarked self.new.marks self.new.pairs.items) }
     {
         if !may_be_of(class, name) || has_underscore(name) {
             return Ok(());
@@ -104,35 +176,38 @@ impl Environ {
         if !is_in(class, key) {
             return Ok(());
         }
-        put_pair(alloc, &mut self.pairs, key, value)
+        self.put(alloc, key, value)
     }
 
-    /// Appends to none the pairs of the request that the head asks for.
-    fn add_request(&mut self, alloc: Global, head: &Head<'_>) -> Result<(), AllocError>
-        requires { self.old ≡ [] }
-        ensures { OnOk result (self.new ≡ environ_of head.now.port head.now.method.now head.now.target.now head.now.minor head.now.fields) }
+    /// Appends to none the pairs that do not come from fields.
+    fn push_request_pairs(&mut self, alloc: Global, head: &Head<'_>) -> Result<(), AllocError>
+        requires none { self.old.pairs.items ≡ [] }
+        requires marked { AreMarked self.old.marks self.old.pairs.items }
+        ensures pushed { OnOk result (self.new.pairs.items
+            ≡ request_pairs head.now.port head.now.method.now head.now.target.now head.now.minor) }
+        ensures marked { OnOk result (AreMarked self.new.marks self.new.pairs.items) }
     {
-        push_request_pairs(alloc, &mut self.pairs, head)?;
-        let mut key = Vec::new(alloc);
-        self.add_fields(alloc, &mut key, &head.fields, KeyClass::ContentType)?;
-        self.add_fields(alloc, &mut key, &head.fields, KeyClass::ContentLength)?;
-        self.add_fields(alloc, &mut key, &head.fields, KeyClass::Other)
+        self.push(alloc, b"REQUEST_METHOD", head.method)?;
+        self.push(alloc, b"SCRIPT_NAME", b"")?;
+        self.push_path(alloc, head.target)?;
+        self.push(alloc, b"QUERY_STRING", after_question(head.target))?;
+        self.push(alloc, b"SERVER_NAME", b"localhost")?;
+        self.push_port(alloc, head.port)?;
+        self.push_protocol(alloc, head.minor)
     }
 }
 
-/// Adds a pair: its value goes on behind the one that its key has.
-fn put_pair(
-    alloc: Global,
-    pairs: &mut Vec<(Bytes, Bytes)>,
-    key: &[u8],
-    value: &[u8],
-) -> Result<(), AllocError>
-    ensures { OnOk result (pairs.new.items ≡ with_pair pairs.old.items (key.now, value.now)) }
+/// A number below `TAGS` that depends on the key alone. Most keys of one request differ in their length or their last two
+/// bytes.
+fn tag_of(key: &[u8]) -> usize
+    ensures tag { result ≡ tag_of key.now }
+    ensures below { result < 256 }
 {
-    match find_key(pairs, key) {
-        Some(place) => lengthen(&mut pairs[place].1, joint(key), value),
-        None => push_pair(alloc, pairs, key, value),
+    let len = key.len();
+    if len < 2 {
+        return 0;
     }
+    (len % TAGS + 31 * usize::from(key[len - 1]) + 7 * usize::from(key[len - 2])) % TAGS
 }
 
 /// Appends to a value what stands between two, and the next.
@@ -293,57 +368,38 @@ fn path_info(alloc: Global, target: &[u8]) -> Result<Vec<u8>, AllocError>
     Ok(path)
 }
 
-/// Appends the pair of the path.
-fn push_path(
-    alloc: Global,
-    pairs: &mut Vec<(Bytes, Bytes)>,
-    target: &[u8],
-) -> Result<(), AllocError>
-    ensures { OnOk result (pairs.new.items ≡ pairs.old.items
-        ++ (codes "PATH_INFO", percent_decode (path_of (before_first is_question target.now))) ∷ []) }
-{
-    let path = path_info(alloc, target)?;
-    push_pair(alloc, pairs, b"PATH_INFO", &path)
-}
+impl Gathered {
+    /// Appends the pair of the path.
+    fn push_path(&mut self, alloc: Global, target: &[u8]) -> Result<(), AllocError>
+        requires { AreMarked self.old.marks self.old.pairs.items }
+        ensures pushed { OnOk result (self.new.pairs.items ≡ self.old.pairs.items
+            ++ (codes "PATH_INFO", percent_decode (path_of (before_first is_question target.now))) ∷ []) }
+        ensures marked { OnOk result (AreMarked self.new.marks self.new.pairs.items) }
+    {
+        let path = path_info(alloc, target)?;
+        self.push(alloc, b"PATH_INFO", &path)
+    }
 
-/// Appends the pair of the server's port.
-fn push_port(alloc: Global, pairs: &mut Vec<(Bytes, Bytes)>, port: u16) -> Result<(), AllocError>
-    ensures { OnOk result (pairs.new.items ≡ pairs.old.items ++ (codes "SERVER_PORT", decimal port) ∷ []) }
-{
-    let number = format!(in alloc; "{port}")?;
-    push_pair(alloc, pairs, b"SERVER_PORT", number.as_bytes())
-}
+    /// Appends the pair of the server's port.
+    fn push_port(&mut self, alloc: Global, port: u16) -> Result<(), AllocError>
+        requires { AreMarked self.old.marks self.old.pairs.items }
+        ensures pushed { OnOk result (self.new.pairs.items ≡ self.old.pairs.items ++ (codes "SERVER_PORT", decimal port) ∷ []) }
+        ensures marked { OnOk result (AreMarked self.new.marks self.new.pairs.items) }
+    {
+        let number = format!(in alloc; "{port}")?;
+        self.push(alloc, b"SERVER_PORT", number.as_bytes())
+    }
 
-/// Appends the pair of the protocol.
-fn push_protocol(
-    alloc: Global,
-    pairs: &mut Vec<(Bytes, Bytes)>,
-    minor: u8,
-) -> Result<(), AllocError>
-    ensures { OnOk result (pairs.new.items ≡ pairs.old.items
-        ++ (codes "SERVER_PROTOCOL", codes "HTTP/1." ++ decimal minor) ∷ []) }
-{
-    let protocol = format!(in alloc; "HTTP/1.{minor}")?;
-    push_pair(alloc, pairs, b"SERVER_PROTOCOL", protocol.as_bytes())
-}
-
-/// Appends to none the pairs that do not come from fields.
-fn push_request_pairs(
-    alloc: Global,
-    pairs: &mut Vec<(Bytes, Bytes)>,
-    head: &Head<'_>,
-) -> Result<(), AllocError>
-    requires { pairs.old.items ≡ [] }
-    ensures { OnOk result (pairs.new.items
-        ≡ request_pairs head.now.port head.now.method.now head.now.target.now head.now.minor) }
-{
-    push_pair(alloc, pairs, b"REQUEST_METHOD", head.method)?;
-    push_pair(alloc, pairs, b"SCRIPT_NAME", b"")?;
-    push_path(alloc, pairs, head.target)?;
-    push_pair(alloc, pairs, b"QUERY_STRING", after_question(head.target))?;
-    push_pair(alloc, pairs, b"SERVER_NAME", b"localhost")?;
-    push_port(alloc, pairs, head.port)?;
-    push_protocol(alloc, pairs, head.minor)
+    /// Appends the pair of the protocol.
+    fn push_protocol(&mut self, alloc: Global, minor: u8) -> Result<(), AllocError>
+        requires { AreMarked self.old.marks self.old.pairs.items }
+        ensures pushed { OnOk result (self.new.pairs.items ≡ self.old.pairs.items
+            ++ (codes "SERVER_PROTOCOL", codes "HTTP/1." ++ decimal minor) ∷ []) }
+        ensures marked { OnOk result (AreMarked self.new.marks self.new.pairs.items) }
+    {
+        let protocol = format!(in alloc; "HTTP/1.{minor}")?;
+        self.push(alloc, b"SERVER_PROTOCOL", protocol.as_bytes())
+    }
 }
 
 /// The environ of the request that the head asks for (PEP 3333, "environ Variables"). The path is decoded (RFC 3986,
@@ -351,9 +407,11 @@ fn push_request_pairs(
 pub fn environ_of(alloc: Global, head: &Head<'_>) -> Result<Environ, AllocError>
     ensures { IfOk result (λ environ. environ ≡ environ_of head.now.port head.now.method.now head.now.target.now head.now.minor head.now.fields) }
 {
-    let mut environ = Environ {
-        pairs: Vec::new(alloc),
-    };
-    environ.add_request(alloc, head)?;
-    Ok(environ)
+    let mut gathered = Gathered::new(alloc, head.fields.len().saturating_add(REQUEST_PAIRS))?;
+    gathered.push_request_pairs(alloc, head)?;
+    let mut key = Vec::new(alloc);
+    gathered.add_fields(alloc, &mut key, &head.fields, KeyClass::ContentType)?;
+    gathered.add_fields(alloc, &mut key, &head.fields, KeyClass::ContentLength)?;
+    gathered.add_fields(alloc, &mut key, &head.fields, KeyClass::Other)?;
+    Ok(gathered.into_environ())
 }

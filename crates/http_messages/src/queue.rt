@@ -9,9 +9,12 @@ use std::alloc::{AllocError, Global};
 use std::marker::Model;
 use std::mem;
 
-/// From how many bytes on room is given back where no byte is left, and bytes that are all are handed on where they
-/// stand.
+/// From how many bytes on bytes that are all are handed on where they stand; above it room is given back where few
+/// are left.
 const LARGE: usize = 65536;
+
+/// The room that is made beside bytes of a told number, so that the head of an answer fits before them.
+const BESIDE: usize = 1024;
 
 /// Bytes that are appended at the end and taken off the front, which contracts see as their list. A
 /// search for a line's end goes on where the last one stopped, and a byte is moved at most once for
@@ -46,9 +49,6 @@ fn drop_front(bytes: &mut Vec<u8>, n: usize)
     let (front, back) = bytes.as_mut_slice().split_at_mut(n);
     front[..left].copy_from_slice(back);
     bytes.truncate(left);
-    if left == 0 && bytes.capacity() >= LARGE {
-        bytes.shrink_to(0);
-    }
 }
 
 impl ByteQueue {
@@ -84,8 +84,21 @@ impl ByteQueue {
         ensures ok { OnOk result (self.new ≡ self.old ++ piece.now) }
         ensures err { OnErr result (self.new ≡ self.old) }
     {
+        if self.bytes.capacity() - self.bytes.len() < piece.len() {
+            self.close_up();
+        }
         self.bytes.extend_from_slice(piece)?;
         Ok(())
+    }
+
+    /// Moves the bytes to the front, where no fewer were taken off there.
+    fn close_up(&mut self)
+        ensures { self.new ≡ self.old }
+    {
+        if self.start >= self.bytes.len() - self.start {
+            drop_front(&mut self.bytes, self.start);
+            self.start = 0;
+        }
     }
 
     /// Takes bytes off the end, so that so many are left, where there are more.
@@ -100,17 +113,71 @@ impl ByteQueue {
         }
     }
 
-    /// Makes room for so many bytes in all, which are then appended without a move.
+    /// Makes room for so many bytes in all, which are then appended without a move, and for the head of an answer.
     pub fn reserve(&mut self, len: usize) -> Result<(), AllocError>
         ensures { self.new ≡ self.old }
     {
         if self.bytes.capacity() - self.start < len {
             self.bytes.drain(..self.start);
             self.start = 0;
-            self.bytes
-                .reserve_exact(len.saturating_sub(self.bytes.len()))?;
+            self.bytes.reserve_exact(len.saturating_add(BESIDE).saturating_sub(self.bytes.len()))?;
         }
         Ok(())
+    }
+
+    /// Gives room back that many bytes took, where few are left.
+    fn give_back_room(&mut self)
+        ensures { self.new ≡ self.old }
+    {
+        if self.bytes.capacity() > LARGE && self.bytes.len() < LARGE {
+            self.bytes.shrink_to(LARGE);
+        }
+    }
+
+    /// Takes over the room of bytes that nobody needs any more, where it is larger and no byte is here.
+    pub fn take_room(&mut self, bytes: Bytes)
+        ensures { self.new ≡ self.old }
+    {
+        let mut room = bytes.into_vec();
+        if self.len() == 0 && self.bytes.capacity() < room.capacity() {
+            room.clear();
+            self.begin_with(room);
+        }
+    }
+
+    /// Before so many bytes come, takes over the room of a queue whose bytes are all gone. Where they are few, both give
+    /// back the room that many took.
+    pub fn take_room_of(&mut self, alloc: Global, gone: &mut ByteQueue, len: usize)
+        ensures own { self.new ≡ self.old }
+        ensures gone { gone.new ≡ gone.old }
+    {
+        if len < LARGE {
+            self.give_back_room();
+            gone.give_back_room();
+        } else if gone.len() == 0 && self.bytes.capacity() < gone.bytes.capacity() {
+            self.move_to(gone.take_all(alloc));
+        }
+    }
+
+    /// Moves the bytes to this room.
+    fn move_to(&mut self, mut room: Vec<u8>)
+        ensures { self.new ≡ self.old }
+    {
+        room.clear();
+        if room.extend_from_slice(self.items()).is_ok() {
+            self.begin_with(room);
+        }
+    }
+
+    /// Has these bytes in the place of its own.
+    fn begin_with(&mut self, bytes: Vec<u8>)
+        ensures { self.new ≡ bytes.items }
+    {
+        self.bytes = bytes;
+        self.start = 0;
+        self.line = 0;
+        self.empty = 0;
+        self.place = LinePlace::Start;
     }
 
     /// Takes so many bytes off the front. Where they are many and all, they are handed on where they stand. After an
@@ -121,7 +188,7 @@ impl ByteQueue {
         ensures rest { OnOk result (self.new ≡ drop n self.old) }
         ensures err { OnErr result (self.new ≡ self.old) }
     {
-        if n >= LARGE && n == self.len() {
+        if n >= LARGE && n == self.bytes.len() {
             return Ok(Sequence::from_vec(self.take_all(alloc)));
         }
         let front = Sequence::copy_of(alloc, &self.items()[..n])?;
@@ -134,7 +201,9 @@ impl ByteQueue {
         ensures all { result.items ≡ self.old }
         ensures none { self.new ≡ [] }
     {
-        self.bytes.drain(..self.start);
+        if self.start > 0 {
+            self.bytes.drain(..self.start);
+        }
         self.start = 0;
         self.line = 0;
         self.empty = 0;
@@ -152,8 +221,8 @@ impl ByteQueue {
             self.line = 0;
             self.empty = 0;
             self.place = LinePlace::Start;
-            if self.start > self.bytes.len() - self.start {
-                drop_front(&mut self.bytes, self.start);
+            if self.start == self.bytes.len() {
+                self.bytes.clear();
                 self.start = 0;
             }
         }

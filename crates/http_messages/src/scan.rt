@@ -1,9 +1,11 @@
 //! Scans for line ends.
-ghost use Rattle.std.specs.Prelude.{◌≡◌, ◌==◌, ◌^◌, ◌<◌, ◌≤◌, ◌-◌, IfSome, length, take, true};
+ghost use Rattle.std.specs.Prelude.{◌≡◌, ◌==◌, ◌&&◌, ◌^◌, ◌<◌, ◌≤◌, ◌-◌, IfSome, length, take, true};
 ghost use Rattle.std.specs.List.{position_or_len};
 ghost use Rattle.std.specs.Str.{str_eq_ignore_ascii_case};
-ghost use Rattle.http_messages.specs.Cuts.{empty_line, empty_line_end, line_end};
+ghost use Rattle.http_messages.specs.Cuts.{empty_line, empty_line_end, is_lf, line_end};
 ghost use Rattle.http_messages.specs.Scans.{Resumes, is_empty_so_far, place_after};
+
+use memchr::memchr;
 
 /// Where in a line a scan stands.
 #[derive(Clone, Copy, Debug, PartialEq, Eq)]
@@ -38,13 +40,26 @@ fn place_after(place: LinePlace, byte: u8) -> LinePlace
     }
 }
 
-/// Whether an LF here ends an empty line.
-fn is_empty_so_far(place: LinePlace) -> bool
-    ensures { result ≡ is_empty_so_far place }
+/// Whether this byte ends an empty line here.
+fn ends_empty_line(place: LinePlace, byte: u8) -> bool
+    ensures { result ≡ (is_empty_so_far place && is_lf byte) }
 {
     match place {
-        LinePlace::Start | LinePlace::AfterReturn => true,
+        LinePlace::Start | LinePlace::AfterReturn => byte == b'\n',
         LinePlace::Within => false,
+    }
+}
+
+/// Where a scan at this place of a line has to look next: within a line at its LF, or at the end of the bytes.
+fn next_looked_at(bytes: &[u8], at: usize, place: LinePlace) -> usize
+    requires { at ≤ length bytes.now }
+    ensures fits { result ≤ length bytes.now }
+    ensures further { at ≤ result }
+    ensures resumes { Resumes LinePlace.Start (take at bytes.now) place → Resumes LinePlace.Start (take result bytes.now) place }
+{
+    match place {
+        LinePlace::Within => at + find_byte(&bytes[at..], b'\n'),
+        LinePlace::Start | LinePlace::AfterReturn => at,
     }
 }
 
@@ -58,8 +73,9 @@ pub fn scan_empty_line(bytes: &[u8], scanned: usize, place: LinePlace) -> Scanne
     ensures resumes { Resumes LinePlace.Start (take result.scanned bytes.now) result.place }
 {
     let mut place = place;
-    for at in scanned..bytes.len() {
-        if is_empty_so_far(place) && bytes[at] == b'\n' {
+    let mut at = scanned;
+    'scan: while at < bytes.len() {
+        if ends_empty_line(place, bytes[at]) {
             return Scanned {
                 end: Some(at + 1),
                 scanned: at,
@@ -67,10 +83,11 @@ pub fn scan_empty_line(bytes: &[u8], scanned: usize, place: LinePlace) -> Scanne
             };
         }
         place = place_after(place, bytes[at]);
+        at = next_looked_at(bytes, at + 1, place);
     }
     Scanned {
         end: None,
-        scanned: bytes.len(),
+        scanned: at,
         place,
     }
 }
@@ -103,12 +120,10 @@ pub fn find_byte(bytes: &[u8], byte: u8) -> usize
     ensures within { result ≤ length bytes.now }
     ensures fits { length bytes.now < 2 ^ 64 }
 {
-    for at in 0..bytes.len() {
-        if bytes[at] == byte {
-            return at;
-        }
+    match memchr(byte, bytes) {
+        Some(at) => at,
+        None => bytes.len(),
     }
-    bytes.len()
 }
 
 /// The length of the empty line at the front; 0 where none stands there.

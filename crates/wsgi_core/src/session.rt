@@ -12,8 +12,8 @@ use crate::answer::push_answer;
 use crate::answered::Answered;
 use crate::reply::{Application, Reply};
 use http_messages::{
-    AwaitedBody, BodyFound, ByteQueue, Bytes, Environ, Found, HttpRequest, Refusal, awaited_by,
-    read_body, read_request,
+    AwaitedBody, BodyFound, ByteQueue, Bytes, Environ, Found, Framing, HttpRequest, Refusal,
+    awaited_by, read_body, read_request,
 };
 use std::alloc::{AllocError, Global};
 use std::mem;
@@ -38,7 +38,8 @@ pub enum SessionStage {
     Asked(HttpRequest, Bytes),
 }
 
-/// The session of one connection (RFC 9112, section 9).
+/// The session of one connection (RFC 9112, section 9). The room of a large body goes on to its answer, and then to the
+/// next large body; the first bytes that belong to none give it back.
 #[derive(Drop)]
 pub struct Session {
     alloc: Global,
@@ -79,6 +80,14 @@ fn push_continue(pending: &mut ByteQueue, request: &HttpRequest) -> Result<(), A
     Ok(())
 }
 
+/// How many bytes a body will have, where its head says it; else 0.
+fn stated_len(framing: Framing) -> usize {
+    match framing {
+        Framing::Sized(len) => len,
+        Framing::Chunked => 0,
+    }
+}
+
 impl Session {
     /// A session to which nothing was fed.
     pub fn new(alloc: Global, port: u16) -> Session
@@ -113,13 +122,18 @@ impl Session {
         ensures err { OnErr result (self.new.pending ≡ self.old.pending) }
     {
         match read_request(self.alloc, self.port, &mut self.kept)? {
-            Found::Waits => Ok(false),
+            Found::Waits => {
+                self.kept.take_room_of(self.alloc, &mut self.pending, 0);
+                Ok(false)
+            }
             Found::Refused(reason) => {
                 self.pending.append(refusal_text(reason))?;
                 self.closing = true;
                 Ok(false)
             }
             Found::Whole(request) => {
+                self.kept
+                    .take_room_of(self.alloc, &mut self.pending, stated_len(request.framing));
                 push_continue(&mut self.pending, &request)?;
                 let awaited = awaited_by(self.alloc, request.framing);
                 self.stage = SessionStage::InBody(request, awaited);
@@ -270,7 +284,8 @@ impl Session {
             // The requires says that a request waits, so that the stage is `Asked`.
             SessionStage::AtHead => unreachable!(),
             SessionStage::InBody(..) => unreachable!(),
-            SessionStage::Asked(request, _) => {
+            SessionStage::Asked(request, body) => {
+                self.pending.take_room(body);
                 let closes = push_answer(self.alloc, &mut self.pending, &request, &reply)?;
                 self.closing = closes;
                 self.answered = self.answered.and_one();

@@ -1,12 +1,10 @@
-use Rattle.std.proofs.Common.{◌≡◌, ◌≤◌, ◌-◌, ◌∙◌, sym, ap, arith, ℕ, List, length, take, drop, length-drop}
-use Rattle.std.proofs.lemmas.List.{take_all, drop-drop}
+use Rattle.std.proofs.Common.{◌≡◌, ◌≤◌, ◌∙◌, sym, ap, arith, length, drop, length-drop}
+use Rattle.std.proofs.lemmas.List.{drop-drop}
 use Rattle.http_messages.specs.Cuts.{empty_line, drop_empty_lines}
 use Rattle.http_messages.proofs.CutLaws.{empty_fits}
 use Rattle.http_messages.proofs.JudgeLaws.{drop_line, no_line}
+use Rattle.http_messages.proofs.ScanLaws.{take_rest}
 use Rattle.http_messages.proofs.head.empty_lines_len.Goals as goal
-
-take_rest : (bytes : List ℕ) (at : ℕ) → take (length bytes - at) (drop at bytes) ≡ drop at bytes
-take_rest bytes at = take_all (length bytes - at) (drop at bytes) (rw length-drop (omega arith))
 
 pub returns-then-len-eq0-clause-rest : goal.returns-then-len-eq0-clause-rest
 returns-then-len-eq0-clause-rest c =

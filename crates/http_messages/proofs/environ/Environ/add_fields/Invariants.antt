@@ -1,6 +1,0 @@
-use Rattle.std.proofs.Common.{◌≡◌, fold, take}
-use Rattle.http_messages.specs.Environ.{field_pairs, pairs_of_class, with_pair}
-use Rattle.http_messages.proofs.environ.Environ.add_fields.Given as goal
-
-abbrev pub invariant-loop-place : goal.invariant-loop-place
-invariant-loop-place l = l.self ≡ fold with_pair l.initial.self (pairs_of_class l.class (field_pairs (take l.place l.fields)))
