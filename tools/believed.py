@@ -1,6 +1,7 @@
 """What has to be believed, read of the sources: the definitions that the clauses of a call reach, one by one, with the
 types and constants of the code and the definitions of the kit's libraries that they name."""
 import dataclasses
+import functools
 import pathlib
 import re
 import shutil
@@ -32,7 +33,7 @@ class Unread(Exception):
 def mentions(text, name):
     if "◌" in name:
         return all(part in text for part in name.split("◌"))
-    return re.search(rf"(?<![\w.-]){re.escape(name)}(?![\w-])", text) is not None
+    return name in text and re.search(rf"(?<![\w.-]){re.escape(name)}(?![\w-])", text) is not None
 
 
 def plain(text):
@@ -80,7 +81,7 @@ class Page:
 
 def names_of(text, names, alias):
     """The names of one import that the text mentions."""
-    used = re.findall(rf"(?<![\w.]){alias}\.(\w+)", text) if alias else []
+    used = re.findall(rf"(?<![\w.]){alias}\.(\w+)", text) if alias and f"{alias}." in text else []
     for name in filter(None, map(str.strip, (names or "").split(","))):
         own, _, local = name.partition(" as ")
         if mentions(text, local or own):
@@ -88,10 +89,16 @@ def names_of(text, names, alias):
     return used
 
 
+@functools.lru_cache(maxsize=None)
+def imports_in(text):
+    """The imports of a page: crate, folder, path, names and alias of each."""
+    return IMPORT.findall(text)
+
+
 def imported(imports, text):
     """What the text names of that which these imports bring."""
     found = set()
-    for crate, folder, path, names, alias in IMPORT.findall(imports):
+    for crate, folder, path, names, alias in imports_in(imports):
         for name in names_of(text, names, alias):
             found.add(item_of(crate, folder, path.split(".")[1:], name))
     return found - {None}
@@ -203,6 +210,7 @@ def lines_of(item, kit):
     return page.lines.get(item.name, []) if page and item.file.parts[0] != "std" else []
 
 
+@functools.lru_cache(maxsize=None)
 def named_by(item, kit):
     text = plain("\n".join(lines_of(item, kit)))
     if item.kind == "page":
