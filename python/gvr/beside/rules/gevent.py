@@ -5,6 +5,7 @@ from typing import Any, Dict, List, Optional, Set, Tuple
 from ...model.items import NEWCOMER, Effect, Greenlet, Item, Stop, Thing, Wait
 from ...model.tree import Statement
 from ...model.values import GREENLET_EXIT, NOTHING, Fault, G, Handle, Outcome, timeout_fault
+from ...model.worlds import Answer
 from .rule import GAP, Rule, Teller, side_of, teller_of
 
 QUEUE_WAITS = ('qput', 'qget', 'qpeek', 'cput', 'cget')
@@ -91,6 +92,7 @@ class Batches(Rule):
         self.batch = 0                                     # the kills of one statement
         self.batch_of: Dict[int, int] = {}                 # since of a kill: its batch
         self.killer: Dict[int, int] = {}                   # a batch: since of the Wake of who waits for it
+        self.survived: Set[int] = set()                    # batches that one of their targets survived
 
     def killed(self, g: Greenlet, st: Statement, wait: Wait, fault: Fault) -> Effect:
         self.batch += 1
@@ -138,7 +140,8 @@ class KillerFirst(Batches):
     def deliver(self, item: Item) -> None:
         killer = self.killer_behind(item)
         super().deliver(item)
-        if killer is not None and killer in self.items and self.holds(self.items[killer]):
+        if killer is not None and killer in self.items and self.holds(self.items[killer]) \
+                and self.batch_of[item.since] not in self.survived:
             self.items[killer].ready = None
             self.deliver(self.items[killer])
 
@@ -151,14 +154,21 @@ class KillerJoinsLate(Batches):
     def deliver(self, item: Item) -> None:
         killer = self.killer_behind(item)
         super().deliver(item)
-        if killer is not None and killer in self.items and not self.holds(self.items[killer]):
+        if item.kind == 'kill' and item.greenlet.state != 'done':
+            self.survived.add(self.batch_of[item.since])
+        if killer is not None and killer in self.items and self.batch_of[item.since] in self.survived:
             self.join_anew(self.items[killer])
 
     def join_anew(self, wake: Item) -> None:
-        """The wait begins once more, behind all others."""
-        del self.items[wake.since], wake.greenlet.own[wake.since]
-        wake.since, self.next_since = self.next_since, self.next_since + 1
-        self.items[wake.since] = wake.greenlet.own[wake.since] = wake
+        """The wait begins once more, behind all others, and that of a kill with its whole time."""
+        g, wait, late = wake.greenlet, wake.parked, self.own_item(wake.greenlet, 'late')
+        del self.items[wake.since], g.own[wake.since]
+        wake.since, wake.ready, self.next_since = self.next_since, None, self.next_since + 1
+        self.items[wake.since] = g.own[wake.since] = wake
+        if late is not None and wait.kind == 'kill':
+            self.remove(late)
+            self.add('late', g, late.deadline, wait, n=late.n)
+        self.settle()
 
 
 class SharedNotify(Rule):
@@ -171,6 +181,7 @@ class SharedNotify(Rule):
     def __init__(self, *arguments: Any) -> None:
         super().__init__(*arguments)
         self.told_by: Dict[int, Teller] = {}               # since of a joinall of several: the one whose end decided
+        self.told_at: Dict[int, Dict[Teller, int]] = {}    # and where in the line each of them tells it
 
     def place_of(self, item: Item) -> int:
         if self.joins_several(item):
@@ -198,7 +209,9 @@ class SharedNotify(Rule):
         wait = item.parked
         need = wait.need if wait.kind == 'joinall' else len(wait.targets)
         tellers: List[Teller] = [('greenlet', whom.g) for whom in wait.targets if isinstance(whom, G) and self.ended(whom)]
-        told = sorted((self.telling_at(teller), i, teller) for i, teller in enumerate(tellers))
+        known = self.told_at.get(item.since, {})
+        told = sorted((known[teller] if teller in known else self.telling_at(teller), i, teller)
+                      for i, teller in enumerate(tellers))
         if not told or not need:
             return super().place_of(item)
         place, _, teller = told[min(need, len(told)) - 1]
@@ -217,10 +230,90 @@ class SharedNotify(Rule):
     def teller(self, item: Item) -> Optional[Teller]:
         return self.told_by.get(item.since) or super().teller(item)
 
+    def wait_for(self, g: Greenlet, st: Statement, wait: Wait) -> Effect:
+        effect = super().wait_for(g, st, wait)
+        wake = self.own_item(g, 'wake')
+        if wake is not None and wake.parked is wait and self.joins_several(wake):
+            ended: List[Teller] = [('greenlet', whom.g) for whom in wait.targets if isinstance(whom, G) and self.ended(whom)]
+            self.told_at[wake.since] = {teller: self.telling_at(teller) for teller in ended}
+        return effect
+
+    def linked(self, g: Greenlet, st: Statement, kind: str, thing: Optional[Thing] = None) -> Effect:
+        """A link to one that has ended makes it tell its links once more, also where this one is for another end."""
+        whom = self.greenlets[self.greenlet_of(self.value_of(st.operands[0], g)).g]
+        effect = super().linked(g, st, kind, thing)
+        if whom.state == 'done':
+            self.telling_at(('greenlet', whom.number))
+        return effect
+
     def end(self, g: Greenlet, outcome: Outcome) -> None:
-        if any(self.joins_several(item) and g.handle in item.parked.targets for item in self.items.values()):
-            self.telling_at(('greenlet', g.number))
+        teller: Teller = 'greenlet', g.number
+        if any(item.kind == 'link' for item in g.own.values()):
+            self.telling_at(teller)
+        for item in self.items.values():
+            if self.joins_several(item) and g.handle in item.parked.targets:
+                self.told_at.setdefault(item.since, {})[teller] = self.telling_at(teller)
         super().end(g, outcome)
+
+
+class Rounds(Rule):
+    """What the two rules on rounds share: an object wakes in one round those that waited when the round began."""
+
+    def __init__(self, *arguments: Any) -> None:
+        super().__init__(*arguments)
+        self.rounds: Dict[Teller, int] = {}                # of who wakes waiters just now: the since of who comes too late
+
+    def is_too_late(self, item: Item) -> bool:
+        """Whether it began to wait after the round began that its object makes just now."""
+        teller = teller_of(item) if item.kind == 'wake' else None
+        if teller not in self.rounds or item.since < self.rounds[teller] or item.parked.kind in QUEUE_WAITS:
+            return False
+        return item.since not in self.yielded or item.since in self.too_late
+
+    def deliver(self, item: Item) -> None:
+        teller = self.teller(item)
+        if teller is None or teller[0] == 'greenlet' or item.ready is None:
+            super().deliver(item)
+            return
+        self.rounds.setdefault(teller, self.next_since)
+        super().deliver(item)
+        late = [x for x in self.items.values() if teller_of(x) == teller and self.is_too_late(x)]
+        if not any(x.ready is not None and teller_of(x) == teller and x not in late for x in self.items.values()):
+            self.rounds.pop(teller, None)
+            self.round_is_over(late)
+
+    def round_is_over(self, late: List[Item]) -> None:
+        """These began to wait while the round went on."""
+
+
+class NextRound(Rounds):
+    name, root = 'next_round', '3'
+    says = 'who begins to wait on an object while it wakes those that waited before is woken in a round behind that one'
+    source = 'gevent/_abstract_linkable.py, AbstractLinkable._notify_link_list: up to the link that was the last when it ' \
+             'began; _notify_links: _check_and_notify behind it'
+
+    def holds(self, item: Item) -> bool:
+        return not self.is_too_late(item) and super().holds(item)
+
+    def round_is_over(self, late: List[Item]) -> None:
+        super().round_is_over(late)
+        self.settle()
+
+
+class LostSet(Rounds):
+    name, root = 'lost_set', '2'
+    says = 'a bug of gevent: set and clear by one that an event woke, while it wakes others, wake nobody'
+    source = 'gevent/_abstract_linkable.py, AbstractLinkable._check_and_notify: no notifier is made while one runs, and ' \
+             'behind that one the flag is looked at'
+    documentation = 'gevent breaks it. Event: "as soon as the flag is set to true, all greenlets that are currently ' \
+                    'blocked in a call to wait will be scheduled to awaken"'
+
+    def round_is_over(self, late: List[Item]) -> None:
+        super().round_is_over(late)
+        for item in late:
+            if item.parked.kind == 'wait' and not item.parked.thing.is_set:
+                item.parked.sets = item.parked.thing.sets
+        self.settle()
 
 
 class ZeroLast(Rule):
@@ -243,17 +336,10 @@ class ZeroLast(Rule):
     def holds(self, item: Item) -> bool:
         return item.since not in self.zeros and super().holds(item)
 
-    def turn(self) -> None:
-        if not self.zeros or self.least_ready() is not None:
-            super().turn()
-            return
-        if self.turns == self.most_turns:
-            raise Stop('no-turns')
-        self.turns += 1
-        self.zeros = set()
-        self.looking = True
-        self.settle()
-        self.looking = False
+    def answered(self, answer: Answer) -> None:
+        if self.least_ready() is None:
+            self.zeros = set()
+        super().answered(answer)
 
 
 class ValueStays(Rule):
