@@ -189,12 +189,26 @@ class SharedNotify(Rule):
         teller = teller_of(item)
         if teller is None or item.since in self.too_late:
             return super().place_of(item)
+        if item.since not in self.yielded and self.told_last(teller):
+            return self.place_before(self.told_last(teller))
         last = self.last_told(teller)
         if last is None and self.told is not None and self.told[0] == teller:
             last = self.told[1]
         if last is None and self.pending.get(teller, -1) > self.delivering:
             last = self.pending[teller]                   # it stands there, though whom it was to tell is gone
         return super().place_of(item) if last is None else last + 1
+
+    def told_last(self, teller: Teller) -> List[Item]:
+        """Those that it tells behind those that had to wait."""
+        return [x for x in self.items.values() if x.ready is not None and x.since in self.yielded and teller_of(x) == teller]
+
+    @staticmethod
+    def place_before(items: List[Item]) -> int:
+        """The place of the first of these, which all make room."""
+        place = min(item.ready for item in items if item.ready is not None)
+        for item in items:
+            item.ready = None if item.ready is None else item.ready + 1
+        return place
 
     def last_told(self, teller: Teller) -> Optional[int]:
         """The last place of those that this one tells."""
