@@ -7,13 +7,12 @@ from typing import Dict, FrozenSet, Iterator, List, Tuple
 
 import gvr.beside
 from gvr.beside import generate
-from gvr.beside.events import Difference, void
+from gvr.beside.events import Difference, outcome, void
 from gvr.beside.rules import explain, machine_with, names, rule, sets
 from gvr.beside.sides import Adapter, Gvr, adapter, interpreter
 from gvr.model import Line, ScriptWorld, read
 
 CASES = os.path.join(os.path.dirname(gvr.beside.__file__), 'cases')
-EXAMPLES = os.path.join(os.path.dirname(os.path.abspath(__file__)), '..', '..', '..', 'examples')
 # Classes of gevent without a rule: the comparison cannot go on beyond them.
 NO_RULE = {'group_is_a_set'}
 
@@ -99,18 +98,14 @@ class Beside:
 class BesideGevent(Beside, unittest.TestCase):
     runtime, options = 'gevent', ('--ordered-groups',)
 
+    def test_the_head_of_each_case_is_what_it_comes_to(self) -> None:
+        for name, text in cases('gevent'):
+            if name not in NO_RULE:
+                head = ['# ' + rule(name).says, '# gevent: ' + outcome(self.side.run(text)), '# gvr: ' + outcome(Gvr().run(text))]
+                self.assertEqual(text.split('\n')[:3], head, name)
+
     def test_a_group_in_order_of_admission_is_the_same(self) -> None:
         self.assertFalse(self.differs(dict(cases('gevent'))['group_is_a_set'], frozenset()))
-
-    def test_every_difference_of_the_examples_is_explained(self) -> None:
-        """Each example of the repository has an answer, and where it differs, rules that say why."""
-        for path in sorted(glob.glob(os.path.join(EXAMPLES, '*.gvr'))):
-            with open(path) as file:
-                text = file.read()
-            theirs, model = self.side.run(text), Gvr().run(text)
-            if not void(theirs) and not void(model) and Difference(theirs, model):
-                found = explain(lambda rules: not Difference(theirs, Gvr().run(text, None, rules)))
-                self.assertIsNotNone(found, path)
 
     def test_the_virtual_loop_is_a_function_of_the_scenario(self) -> None:
         for seed in range(30):
