@@ -70,4 +70,6 @@ class Deep(Maker):
         if any(' k3' in line for line in lines):
             out += ['def k3 n', *self.some(['n'], 1, 2), 'end']
         faulty = ['if == %% n 2 %s' % self.pick('0', '1'), 'raise Error 7', 'end']
-        return out + ['def k4 n', 'sleep ' + self.ms(), *self.lines([], faulty, faulty), 'sleep ' + self.ms(), 'return n', 'end']
+        survives = ['try', 'sleep ' + self.ms(), 'except any', 'print n', 'end']
+        sleeps = ['sleep ' + self.ms()]
+        return out + ['def k4 n', *self.lines(sleeps, survives), *self.lines([], faulty, faulty), *sleeps, 'return n', 'end']

@@ -22,7 +22,7 @@ GEVENT: Tuple[Type[Rule], ...] = (
     gevent.QueueAlternates, gevent.MainExit, gevent.SleepFirst, gevent_crews.JoinallYields, gevent_crews.CountStops,
     gevent_crews.EndsTold, gevent_crews.LeaveByLink, gevent_crews.GkillNewcomers, gevent.KillallLate, gevent.CgetYields,
     gevent.KillerJoinsLate, gevent.NextRound, gevent.LostSet,
-    gevent_crews.LooksLast)
+    gevent_crews.LooksLast, gevent_crews.KilledOnce, gevent_crews.GkillInTurn)
 ASYNCIO: Tuple[Type[Rule], ...] = (
     gevent.Overtake, gevent.StaleWake, gevent.LateReads, *asyncio.RULES)
 TRIO: Tuple[Type[Rule], ...] = (

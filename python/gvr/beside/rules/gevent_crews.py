@@ -1,5 +1,5 @@
 """The rules of gevent 22.10.2 on joinall, groups, pools, maps and jobs."""
-from typing import Any, Dict, List, Optional, Tuple
+from typing import Any, Dict, List, Optional, Set, Tuple
 
 from ...model.items import ENDLESS, NEWCOMER, PARKED, Effect, Greenlet, Item, Job, Link, Thing, Wait
 from ...model.tree import Function, Statement
@@ -136,9 +136,40 @@ class GkillNewcomers(Rule):
         wait.targets = members
         self.park(g, wait)
         fault = next(fault for each, fault in self.faults if each is wait)
+        self.kills_members = True
         for member in new:
             self.hit(member, fault)
+        self.kills_members = False
         return None
+
+
+class KilledOnce(Rule):
+    name, root = 'killed_once', '9'
+    says = 'gkill kills each member once: one that survived is not killed again'
+    source = 'gevent/pool.py, Group.kill: those in self.dying are left out'
+    documentation = 'gevent breaks it. Group.kill: "Kill all greenlets being tracked by this group"'
+
+    def __init__(self, *arguments: Any) -> None:
+        super().__init__(*arguments)
+        self.dying: Set[Handle] = set()
+
+    def hit(self, target: Handle, fault: Fault) -> None:
+        if self.kills_members and target in self.dying:
+            return
+        if self.kills_members:
+            self.dying.add(target)
+        super().hit(target, fault)
+
+
+class GkillInTurn(Rule):
+    name, root = 'gkill_in_turn', '3'
+    says = 'each kill of a gkill has its place at once: a throw stands before the links of one behind it that had not begun'
+    source = 'gevent/pool.py, Group.kill: greenlet.kill(block=False) of each'
+
+    def hit(self, target: Handle, fault: Fault) -> None:
+        super().hit(target, fault)
+        if self.kills_members:
+            self.settle()
 
 
 class JoinBeforePlace(Rule):
