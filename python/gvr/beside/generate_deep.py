@@ -22,12 +22,14 @@ class Deep(Maker):
         if share < 0.1:
             out.append('raise Error ' + self.value())
         elif share < 0.25:
-            out += ['y <- spawn k4 %s' % self.value(), *self.lines(['join y' + self.timed(), self.say()], ['kill y'], [])]
+            out.append('y <- spawn k4 ' + self.value())
+            out += self.lines(['join y' + self.timed(), self.say()], ['kill y'], [])
         return out
 
     def links(self, handles: Sequence[str]) -> Lines:
         h = self.pick(*handles)
-        return self.lines(['link %s k3' % h], ['linkvalue %s k3' % h], ['linkfault %s k3' % h], ['rawlink %s set e' % h],
+        return self.lines(['link %s k3' % h], ['linkvalue %s k3' % h], ['linkfault %s k3' % h],
+                          ['rawlink %s set e' % h],
                           ['rawlink %s set e' % h, 'x <- wait e' + self.timed(), 'print x'], super().links(handles))
 
     def kills(self, handles: Sequence[str]) -> Lines:
@@ -49,7 +51,8 @@ class Deep(Maker):
                           super().group(handles), super().group(handles))
 
     def pool(self, handles: Sequence[str]) -> Lines:
-        mapped = ['try', 'x <- map o k4 list 2 %s %s' % (self.value(), self.value()), 'print x', 'except Error f', 'print f', 'end']
+        call = 'x <- map o k4 list 2 %s %s' % (self.value(), self.value())
+        mapped = ['try', call, 'print x', 'except Error f', 'print f', 'end']
         return self.lines(mapped, ['gspawn o k4 ' + self.value()], super().pool(handles), super().pool(handles))
 
     def map(self, handles: Sequence[str]) -> Lines:
@@ -72,4 +75,5 @@ class Deep(Maker):
         faulty = ['if == %% n 2 %s' % self.pick('0', '1'), 'raise Error 7', 'end']
         survives = ['try', 'sleep ' + self.ms(), 'except any', 'print n', 'end']
         sleeps = ['sleep ' + self.ms()]
-        return out + ['def k4 n', *self.lines(sleeps, survives), *self.lines([], faulty, faulty), *sleeps, 'return n', 'end']
+        body = self.lines(sleeps, survives) + self.lines([], faulty, faulty) + sleeps
+        return out + ['def k4 n', *body, 'return n', 'end']

@@ -1,4 +1,4 @@
-"""Every scenario of examples/ by every adapter that is there: each answers, and what differs of gevent has its rules."""
+"""Every scenario of examples/ by every adapter that is there: each answers; what differs of gevent has its rules."""
 import pathlib
 import sys
 import unittest

@@ -1,4 +1,4 @@
-"""The programs of docs/found that are for gevent's authors: each does what its page says, by gevent as it is installed."""
+"""The programs of docs/found for gevent's authors: each does what its page says, by gevent as it is installed."""
 import os
 import pathlib
 import re

@@ -221,7 +221,8 @@ class Command(unittest.TestCase):
 
     def test_check_tells_of_an_adapter_that_dies(self) -> None:
         path = self.file(HELLO)
-        status, said, complaint = command('check', path, path, path, '--adapter', shlex.join([sys.executable, '-c', DIES]))
+        dies = shlex.join([sys.executable, '-c', DIES])
+        status, said, complaint = command('check', path, path, path, '--adapter', dies)
         self.assertEqual((status, said.split('\n')[-2]), (1, '2 different, 1 void: died'))
         self.assertIn('the adapter died and was started anew: status 1; it said last: out of luck', complaint)
 
@@ -232,8 +233,8 @@ class Command(unittest.TestCase):
             with self.subTest(intended):
                 self.assertEqual(command('check', *paths, '--intended', intended)[0], status)
         said = command('check', *paths, '--intended', 'sleep_first')[1]
-        self.assertEqual([' '.join(line.split()) for line in said.split('\n')[:3]],
-                         ['sleep_first.gvr same', 'overtake.gvr differs in prints and end: overtake', '1 different, 1 same'])
+        self.assertEqual([' '.join(line.split()) for line in said.split('\n')[:3]], [
+            'sleep_first.gvr same', 'overtake.gvr differs in prints and end: overtake', '1 different, 1 same'])
 
     def test_what_no_program_says_is_told(self) -> None:
         path = self.file('rawdef r x\nend\ndef main\n  raw r\nend\n')

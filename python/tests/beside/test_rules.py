@@ -101,8 +101,8 @@ class BesideGevent(Beside, unittest.TestCase):
     def test_the_head_of_each_case_is_what_it_comes_to(self) -> None:
         for name, text in cases('gevent'):
             if name not in NO_RULE:
-                head = ['# ' + rule(name).says, '# gevent: ' + outcome(self.side.run(text)), '# gvr: ' + outcome(Gvr().run(text))]
-                self.assertEqual(text.split('\n')[:3], head, name)
+                came = [rule(name).says, 'gevent: ' + outcome(self.side.run(text)), 'gvr: ' + outcome(Gvr().run(text))]
+                self.assertEqual(text.split('\n')[:3], ['# ' + line for line in came], name)
 
     def test_a_group_in_order_of_admission_is_the_same(self) -> None:
         self.assertFalse(self.differs(dict(cases('gevent'))['group_is_a_set'], frozenset()))

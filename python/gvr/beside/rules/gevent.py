@@ -200,7 +200,8 @@ class SharedNotify(Rule):
 
     def told_last(self, teller: Teller) -> List[Item]:
         """Those that it tells behind those that had to wait."""
-        return [x for x in self.items.values() if x.ready is not None and x.since in self.yielded and teller_of(x) == teller]
+        return [x for x in self.items.values()
+                if x.ready is not None and x.since in self.yielded and teller_of(x) == teller]
 
     @staticmethod
     def place_before(items: List[Item]) -> int:
@@ -222,15 +223,18 @@ class SharedNotify(Rule):
         """One that joins several is told of each; it goes on where it is told of the last that it needs."""
         wait = item.parked
         need = wait.need if wait.kind == 'joinall' else len(wait.targets)
-        tellers: List[Teller] = [('greenlet', whom.g) for whom in wait.targets if isinstance(whom, G) and self.ended(whom)]
         known = self.told_at.get(item.since, {})
         told = sorted((known[teller] if teller in known else self.telling_at(teller), i, teller)
-                      for i, teller in enumerate(tellers))
+                      for i, teller in enumerate(self.ended_of_several(wait)))
         if not told or not need:
             return super().place_of(item)
         place, _, teller = told[min(need, len(told)) - 1]
         self.told_by[item.since] = teller
         return max(place, self.last_told(teller) or 0) + 1
+
+    def ended_of_several(self, wait: Wait) -> List[Teller]:
+        """Those that have ended of the greenlets that it joins."""
+        return [('greenlet', whom.g) for whom in wait.targets if isinstance(whom, G) and self.ended(whom)]
 
     def telling_at(self, teller: Teller) -> int:
         """The place at which one that has ended tells it: just now, where it stands in the line, or behind all."""
@@ -248,8 +252,7 @@ class SharedNotify(Rule):
         effect = super().wait_for(g, st, wait)
         wake = self.own_item(g, 'wake')
         if wake is not None and wake.parked is wait and self.joins_several(wake):
-            ended: List[Teller] = [('greenlet', whom.g) for whom in wait.targets if isinstance(whom, G) and self.ended(whom)]
-            self.told_at[wake.since] = {teller: self.telling_at(teller) for teller in ended}
+            self.told_at[wake.since] = {teller: self.telling_at(teller) for teller in self.ended_of_several(wait)}
         return effect
 
     def linked(self, g: Greenlet, st: Statement, kind: str, thing: Optional[Thing] = None) -> Effect:
@@ -275,7 +278,7 @@ class Rounds(Rule):
 
     def __init__(self, *arguments: Any) -> None:
         super().__init__(*arguments)
-        self.rounds: Dict[Teller, int] = {}                # of who wakes waiters just now: the since of who comes too late
+        self.rounds: Dict[Teller, int] = {}                # who wakes just now: the since from which one is too late
 
     def is_too_late(self, item: Item) -> bool:
         """Whether it began to wait after the round began that its object makes just now."""
@@ -303,8 +306,8 @@ class Rounds(Rule):
 class NextRound(Rounds):
     name, root = 'next_round', '3'
     says = 'who begins to wait on an object while it wakes those that waited before is woken in a round behind that one'
-    source = 'gevent/_abstract_linkable.py, AbstractLinkable._notify_link_list: up to the link that was the last when it ' \
-             'began; _notify_links: _check_and_notify behind it'
+    source = 'gevent/_abstract_linkable.py, AbstractLinkable._notify_link_list goes up to the link that was last when ' \
+             'it began; _notify_links: _check_and_notify behind it'
 
     def holds(self, item: Item) -> bool:
         return not self.is_too_late(item) and super().holds(item)
@@ -317,8 +320,8 @@ class NextRound(Rounds):
 class LostSet(Rounds):
     name, root = 'lost_set', '2'
     says = 'a bug of gevent: set and clear by one that an event woke, while it wakes others, wake nobody'
-    source = 'gevent/_abstract_linkable.py, AbstractLinkable._check_and_notify: no notifier is made while one runs, and ' \
-             'behind that one the flag is looked at'
+    source = 'gevent/_abstract_linkable.py, AbstractLinkable._check_and_notify: no notifier is made while one runs, ' \
+             'and behind that one the flag is looked at'
     documentation = 'gevent breaks it. Event: "as soon as the flag is set to true, all greenlets that are currently ' \
                     'blocked in a call to wait will be scheduled to awaken"'
 

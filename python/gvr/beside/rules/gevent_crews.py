@@ -163,7 +163,7 @@ class KilledOnce(Rule):
 
 class GkillInTurn(Rule):
     name, root = 'gkill_in_turn', '3'
-    says = 'each kill of a gkill has its place at once: a throw stands before the links of one behind it that had not begun'
+    says = 'each kill of a gkill has its place at once: a throw stands before the links of one that had not begun'
     source = 'gevent/pool.py, Group.kill: greenlet.kill(block=False) of each'
 
     def hit(self, target: Handle, fault: Fault) -> None:
@@ -194,7 +194,7 @@ class MapByHelper(Rule):
             return super().do_map(g, st)
         wait = Helped(g, self.objects[st.thing], st.into)
         wait.function, wait.arguments = self.functions[st.function], list(elements)
-        self.add('helper', Greenlet(HELPER, wait.function, [], False, 0), wait=wait)      # it outlives its caller's wait
+        self.add('helper', Greenlet(HELPER, wait.function, [], False, 0), wait=wait)      # it outlives this wait
         return self.park(g, wait)
 
     def holds(self, item: Item) -> bool:
@@ -227,7 +227,7 @@ class MapByHelper(Rule):
             super().woken(g, wake)
 
     def help(self, helper: Greenlet, wait: 'Helped') -> None:
-        """The helper makes members, and waits for a place before each as others do; then it reads their results in order."""
+        """The helper makes members, and waits for each place as others do; then it reads their results in order."""
         while wait.arguments:
             place = HelpersPlace(wait)
             if not self.wait_holds(place, NEWCOMER):
