@@ -88,10 +88,10 @@ class Beside:
             assert Difference(theirs, model.run(text, None, everything - {name})), name
 
     def test_what_the_minimiser_made(self) -> None:
-        """It differs, and does not under the rules of its name."""
+        """It differs, and does not under the rules of its name: `RULE+RULE`, or `RULE+RULE.2`."""
         for name, text in cases('found', self.runtime):
             assert self.differs(text, frozenset()), name
-            assert not self.differs(text, frozenset(name.split('+'))), name
+            assert not self.differs(text, frozenset(name.split('.')[0].split('+'))), name
 
 
 @unittest.skipUnless(interpreter('gevent'), 'no Python here has gevent')
@@ -103,6 +103,10 @@ class BesideGevent(Beside, unittest.TestCase):
             if name not in NO_RULE:
                 came = [rule(name).says, 'gevent: ' + outcome(self.side.run(text)), 'gvr: ' + outcome(Gvr().run(text))]
                 self.assertEqual(text.split('\n')[:3], ['# ' + line for line in came], name)
+
+    def test_all_rules_together_explain_what_the_minimiser_made(self) -> None:
+        for name, text in cases('found', 'gevent'):
+            self.assertFalse(self.differs(text, frozenset(sets()['gevent'])), name)
 
     def test_a_group_in_order_of_admission_is_the_same(self) -> None:
         self.assertFalse(self.differs(dict(cases('gevent'))['group_is_a_set'], frozenset()))

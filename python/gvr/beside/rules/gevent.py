@@ -5,7 +5,6 @@ from typing import Any, Dict, List, Optional, Set, Tuple
 from ...model.items import NEWCOMER, Effect, Greenlet, Item, Stop, Thing, Wait
 from ...model.tree import Statement
 from ...model.values import GREENLET_EXIT, NOTHING, Fault, G, Handle, Outcome, timeout_fault
-from ...model.worlds import Answer
 from .rule import GAP, Rule, Teller, side_of, teller_of
 
 QUEUE_WAITS = ('qput', 'qget', 'qpeek', 'cput', 'cget')
@@ -353,10 +352,10 @@ class ZeroLast(Rule):
     def holds(self, item: Item) -> bool:
         return item.since not in self.zeros and super().holds(item)
 
-    def answered(self, answer: Answer) -> None:
+    def end_of_turn(self) -> None:
         if self.least_ready() is None:
-            self.zeros = set()
-        super().answered(answer)
+            self.zeros = set()                             # they come with what the world tells now
+        super().end_of_turn()
 
 
 class ValueStays(Rule):
