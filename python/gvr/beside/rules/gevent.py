@@ -91,7 +91,7 @@ class Batches(Rule):
         self.batch = 0                                     # the kills of one statement
         self.batch_of: Dict[int, int] = {}                 # since of a kill: its batch
         self.killer: Dict[int, int] = {}                   # a batch: since of the Wake of who waits for it
-        self.survived: Set[int] = set()                    # batches that one of their targets survived
+        self.survived: Dict[int, List[Handle]] = {}        # a batch: those that survived it
 
     def killed(self, g: Greenlet, st: Statement, wait: Wait, fault: Fault) -> Effect:
         self.batch += 1
@@ -132,7 +132,7 @@ class KillerFirst(Batches):
     def end(self, g: Greenlet, outcome: Outcome) -> None:
         for item in g.own.values():
             killer = None if item.ready is None else self.killer_behind(item)
-            if killer is not None and item.ready is not None:
+            if killer is not None and item.ready is not None and self.batch_of[item.since] not in self.survived:
                 self.places[killer] = item.ready
         super().end(g, outcome)
 
@@ -154,19 +154,28 @@ class KillerJoinsLate(Batches):
         killer = self.killer_behind(item)
         super().deliver(item)
         if item.kind == 'kill' and item.greenlet.state != 'done':
-            self.survived.add(self.batch_of[item.since])
-        if killer is not None and killer in self.items and self.batch_of[item.since] in self.survived:
-            self.join_anew(self.items[killer])
+            self.survived.setdefault(self.batch_of[item.since], []).append(item.greenlet.handle)
+        self.join_anew(killer, self.batch_of.get(item.since, 0))
 
-    def join_anew(self, wake: Item) -> None:
-        """The wait begins once more, behind all others, and that of a kill with its whole time."""
+    def end(self, g: Greenlet, outcome: Outcome) -> None:
+        kills = [(self.killer_behind(item), self.batch_of[item.since]) for item in g.own.values() if item.kind == 'kill']
+        super().end(g, outcome)
+        for killer, batch in kills:
+            self.join_anew(killer, batch)
+
+    def join_anew(self, killer: Optional[int], batch: int) -> None:
+        """The killer joins those that survived, behind all others, and after a kill with its whole time."""
+        if killer is None or killer not in self.items or batch not in self.survived:
+            return
+        wake = self.items[killer]
         g, wait, late = wake.greenlet, wake.parked, self.own_item(wake.greenlet, 'late')
-        del self.items[wake.since], g.own[wake.since]
-        wake.since, wake.ready, self.next_since = self.next_since, None, self.next_since + 1
-        self.items[wake.since] = g.own[wake.since] = wake
+        self.remove(wake)
+        joins = Wait(wait.word, None, None, 'join')
+        joins.targets = self.survived[batch]
+        self.add('wake', g, None, joins)
         if late is not None and wait.kind == 'kill':
             self.remove(late)
-            self.add('late', g, late.deadline, wait, n=late.n)
+            self.add('late', g, late.deadline, joins, n=late.n)
         self.settle()
 
 
