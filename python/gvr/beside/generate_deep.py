@@ -71,9 +71,9 @@ class Deep(Maker):
     def helpers(self, lines: Lines) -> Lines:
         out = super().helpers(lines)
         if any(' k3' in line for line in lines):
-            out += ['def k3 n', *self.some(['n'], 1, 2), 'end']
-        faulty = ['if == %% n 2 %s' % self.pick('0', '1'), 'raise Error 7', 'end']
-        survives = ['try', 'sleep ' + self.ms(), 'except any', 'print n', 'end']
+            out += ['def k3 a', *self.some(['a'], 1, 2), 'end']
+        faulty = ['if == %% a 2 %s' % self.pick('0', '1'), 'raise Error 7', 'end']
+        survives = ['try', 'sleep ' + self.ms(), 'except any', 'print a', 'end']
         sleeps = ['sleep ' + self.ms()]
         body = self.lines(sleeps, survives) + self.lines([], faulty, faulty) + sleeps
-        return out + ['def k4 n', *body, 'return n', 'end']
+        return out + ['def k4 a', *body, 'return a', 'end']
