@@ -4,9 +4,10 @@ import sys
 import unittest
 from typing import List, Tuple
 
-from gvr.beside.events import Difference, void
-from gvr.beside.rules import explain
-from gvr.beside.sides import ADAPTERS, Adapter, Gvr, adapter, checked, interpreter, limits_of
+from gvr.beside.events import Difference, Run, void
+from gvr.beside.rules import explain, sets
+from gvr.beside.sides import Adapter, Gvr, adapter, checked, interpreter, limits_of
+from gvr.model import read
 
 TOP = pathlib.Path(__file__).resolve().parents[3]
 
@@ -17,43 +18,49 @@ def examples() -> List[Tuple[str, str]]:
     return [(name, text) for name, text in texts if checked(text) is not None]
 
 
-class Examples(unittest.TestCase):
-    def side(self, name: str, *options: str) -> Adapter:
-        side = adapter(name, *options)
-        self.addCleanup(side.close)
-        return side
+EXAMPLES = examples()
+GEVENT = frozenset(sets()['gevent'])
 
-    def answers(self, side: Adapter) -> int:
-        """How many scenarios it maps. It answers all, and does not end at any."""
-        runs = [side.run(text) for _, text in examples()]
+
+class Examples(unittest.TestCase):
+    def answers(self, side: Adapter) -> List[Run]:
+        """The runs of all scenarios. The adapter answers all, and does not end at any."""
+        runs = side.run_all([read(text.encode()) for _, text in EXAMPLES])
+        side.close()
         self.assertEqual(side.deaths, [])
+        self.assertEqual(len(runs), len(EXAMPLES))
         self.assertTrue(all(run[-1]['ev'] == 'stop' for run in runs))
+        return runs
+
+    def mapped(self, runs: List[Run]) -> int:
+        """How many it maps."""
         return sum(void(run) != 'unsupported' for run in runs)
 
     def test_there_are_scenarios(self) -> None:
-        self.assertGreater(len(examples()), 190)
-
-    def test_each_adapter_answers_each(self) -> None:
-        least = {'gevent': 190, 'asyncio': 40, 'trio': 20}
-        for name, module in ADAPTERS.items():
-            if interpreter(module):
-                with self.subTest(name):
-                    self.assertGreater(self.answers(self.side(name)), least[name])
-
-    def test_the_smallest_adapter_answers_each(self) -> None:
-        smallest = Adapter([sys.executable, str(TOP / 'examples/beside/smallest_adapter.py')])
-        self.addCleanup(smallest.close)
-        self.assertGreater(self.answers(smallest), 4)
+        self.assertGreater(len(EXAMPLES), 190)
 
     @unittest.skipUnless(interpreter('gevent'), 'no Python here has gevent')
-    def test_what_differs_of_gevent_is_explained(self) -> None:
-        side = self.side('gevent', '--ordered-groups')
-        for name, text in examples():
+    def test_gevent_and_what_explains_its_differences(self) -> None:
+        runs = self.answers(adapter('gevent', '--ordered-groups'))
+        self.assertGreater(self.mapped(runs), 190)
+        for (name, text), theirs in zip(EXAMPLES, runs):
             gvr = Gvr(limits_of(text))
-            theirs, model = side.run(text), gvr.run(text)
-            if not void(theirs) and not void(model) and Difference(theirs, model):
-                with self.subTest(name):
-                    self.assertIsNotNone(explain(lambda rules: not Difference(theirs, gvr.run(text, None, rules))))
+            if void(theirs) or void(gvr.run(text)) or not Difference(theirs, gvr.run(text, None, GEVENT)):
+                continue
+            with self.subTest(name):
+                self.assertIsNotNone(explain(lambda rules: not Difference(theirs, gvr.run(text, None, rules))))
+
+    @unittest.skipUnless(interpreter('asyncio'), 'no Python here has asyncio')
+    def test_asyncio(self) -> None:
+        self.assertGreater(self.mapped(self.answers(adapter('asyncio'))), 40)
+
+    @unittest.skipUnless(interpreter('trio'), 'no Python here has trio')
+    def test_trio(self) -> None:
+        self.assertGreater(self.mapped(self.answers(adapter('trio'))), 20)
+
+    def test_the_smallest_adapter(self) -> None:
+        smallest = Adapter([sys.executable, str(TOP / 'examples/beside/smallest_adapter.py')])
+        self.assertGreater(self.mapped(self.answers(smallest)), 4)
 
 
 if __name__ == '__main__':
