@@ -1,7 +1,8 @@
 """Scenarios of what the other profiles leave out: the profile `deep`.
 
 Bodies spawn others, raise, and may be given main to kill it; links wait, act and set events; maps and members of groups
-end by faults; killall and kill have limits; three are joined, one or two of them counted; outcomes are asked for.
+end by faults or survive a kill; killall and kill have limits; of three that are joined one or two are counted;
+outcomes are asked for.
 """
 from typing import Sequence
 

@@ -83,6 +83,11 @@ class Parts(unittest.TestCase):
         run = traced(['park g0 map p', 'wake g0', 'park g0 map p', 'wake g0', 'stop value none turns 1 moves 1'])
         self.assertEqual([e['ev'] for e in run], ['go', 'stop'])
 
+    def test_two_maps_that_follow_each_other_are_two(self) -> None:
+        lines = [Line('park g0 map p', 0, 5), Line('wake g0', 0, 5), Line('park g0 map p', 0, 6), Line('wake g0', 0, 6),
+                 Line('stop value none turns 1 moves 1')]
+        self.assertEqual([e['ev'] for e in from_trace(lines)], ['go', 'go', 'stop'])
+
     def test_the_first_difference(self) -> None:
         stop: Event = {'ev': 'stop', 'out': 'value none'}
         one: Run = [{'ev': 'go', 'g': 0}, {'ev': 'print', 'g': 0, 'v': '1'}, stop]
