@@ -10,7 +10,7 @@ from typing import Any, Callable, Counter, Dict, FrozenSet, List, Optional, Sequ
 from .as_python import NotWritten, program
 from .compare import Part, Task, Verdict, close_sides, sides_of, verdicts
 from .events import LEVELS, Difference, Event, is_compared, outcome, views, void
-from .generate import WIDE
+from .generate import PROFILES, WIDE
 from .hunt import Found, Hunt, Progress, cluster, parts, processes, tell_error, write
 from .rules import add_rules, explain, meaning, names, sets
 from .sides import ADAPTERS, Limits, Trouble, adapter_words, checked
@@ -48,7 +48,7 @@ def parser() -> argparse.ArgumentParser:
     p.add_argument('--moves', type=int, default=Limits().moves)
     p.add_argument('--tick', type=int, default=0)
     hunting = p.add_argument_group('hunt')
-    hunting.add_argument('--profile', choices=('short', 'collide', 'wide', 'raw'), default='collide')
+    hunting.add_argument('--profile', choices=PROFILES, default='collide')
     hunting.add_argument('--themes', default='', metavar='THEMES', help='what the scenarios are about: sem, queue kinds, ..')
     hunting.add_argument('--zero', action='store_true', help='waits of 0 ms too')
     hunting.add_argument('--from', dest='low', type=int, default=0, metavar='SEED')

@@ -7,6 +7,7 @@ import subprocess
 import sys
 import tempfile
 import threading
+from functools import lru_cache
 from typing import IO, FrozenSet, Iterable, List, NamedTuple, Optional, Sequence, Tuple
 
 from ..model import IndexedMachine, Line, Refused, Scenario, ScriptWorld, read
@@ -25,6 +26,7 @@ class Trouble(Exception):
     """What the command tells on standard error before it ends."""
 
 
+@lru_cache(maxsize=1024)                  # a hunt asks when it makes a scenario, and again when it runs it
 def checked(text: str) -> Optional[Scenario]:
     """The checked scenario, or None if it is refused."""
     try:

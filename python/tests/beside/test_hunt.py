@@ -11,7 +11,7 @@ import unittest
 from typing import Any, Callable, List, Tuple
 
 from gvr.beside.compare import Answer, Part, Task, Verdict, close_sides
-from gvr.beside.hunt import Found, Hunt, parts, processes
+from gvr.beside.hunt import Found, Hunt, cluster as cluster_at, parts, processes
 from gvr.beside.rules import add_rules, sets
 from gvr.beside.sides import Trouble, adapter_words, interpreter
 
@@ -101,10 +101,11 @@ class ByGevent(unittest.TestCase):
         words = (str(interpreter('gevent')), os.path.join(HERE, 'planted.py'), *ORDERED)
         task = Task(words, more, frozenset(sets()['gevent']), modules=('planted_rule',))
         hunt = self.hunt(task)
-        began = time.process_time()
+        began = os.times()
         found = hunt.run(parts(Part('collide', False, 0, 100, ('sem',))))
         case = hunt.cases(1)['overtake_twice.gvr']
-        self.assertLess(time.process_time() - began, 60)
+        hunt.submit(close_sides).result()                            # the adapter's time counts when it has ended
+        self.assertLess(sum(os.times()[:4]) - sum(began[:4]), 60)    # seconds of a processor, whatever else it does
         self.assertGreater(found.classes[('overtake_twice',)], 2)
         scenario = [line for line in case.split('\n') if line and not line.startswith('#')]
         self.assertLessEqual(len(scenario), 12, case)
@@ -120,10 +121,11 @@ class OnACluster(unittest.TestCase):
         self.addCleanup(cluster.close)
         client = distributed.Client(cluster)
         self.addCleanup(client.close)
+        make, workers = cluster_at(cluster.scheduler_address)
+        self.assertEqual(workers, 3)
         whole = Part('short', False, 0, 250)
         task = Task(tuple(adapter_words('gevent', ORDERED)), sets()['gevent'])
-        executor: futures.Executor = client.get_executor(pure=False)
-        hunt = Hunt(task, lambda: executor, 3, lambda line: None)
+        hunt = Hunt(task, make, workers, lambda line: None)
         pid, killed = victim(client), threading.Event()
 
         def kill() -> None:
@@ -138,6 +140,10 @@ class OnACluster(unittest.TestCase):
         self.assertEqual(sum(count for kind, count in found.counts.items() if not kind.startswith('different at')),
                          len(names_of(whole)))
         self.assertNotIn('void: died', found.counts)
+
+    def test_no_cluster_is_told(self) -> None:
+        with self.assertRaisesRegex(Trouble, 'no cluster answers at tcp://127.0.0.1:1: '):
+            cluster_at('tcp://127.0.0.1:1', 0.5)
 
 
 def victim(client: Any) -> int:

@@ -17,7 +17,7 @@ from gvr.beside.command import main
 from gvr.beside.events import Difference, Event, Run, from_trace, outcome, until_main_ends, views, void
 from gvr.beside.minimise import smallest
 from gvr.beside.rules import explain
-from gvr.beside.sides import Adapter, Gvr, Limits, Trouble, limits_of
+from gvr.beside.sides import Adapter, Gvr, Limits, Trouble, interpreter, limits_of
 from gvr.beside.tree import tree
 from gvr.model import Line
 
@@ -83,6 +83,11 @@ class Parts(unittest.TestCase):
         run = traced(['park g0 map p', 'wake g0', 'park g0 map p', 'wake g0', 'stop value none turns 1 moves 1'])
         self.assertEqual([e['ev'] for e in run], ['go', 'stop'])
 
+    def test_two_maps_that_follow_each_other_are_two(self) -> None:
+        lines = [Line('park g0 map p', 0, 5), Line('wake g0', 0, 5), Line('park g0 map p', 0, 6), Line('wake g0', 0, 6),
+                 Line('stop value none turns 1 moves 1')]
+        self.assertEqual([e['ev'] for e in from_trace(lines)], ['go', 'go', 'stop'])
+
     def test_the_first_difference(self) -> None:
         stop: Event = {'ev': 'stop', 'out': 'value none'}
         one: Run = [{'ev': 'go', 'g': 0}, {'ev': 'print', 'g': 0, 'v': '1'}, stop]
@@ -127,7 +132,7 @@ class Parts(unittest.TestCase):
         self.assertIsNone(explain(lambda rules: False))
 
     def test_generated_texts_are_a_function_of_their_seed(self) -> None:
-        for profile in ('short', 'collide', 'wide', 'raw'):
+        for profile in generate.PROFILES:
             made = [generate.text(seed, profile) for seed in range(60)]
             self.assertEqual(made, [generate.text(seed, profile) for seed in range(60)])
             self.assertGreater(sum(text is not None for text in made), 50)
@@ -218,6 +223,29 @@ class Command(unittest.TestCase):
         self.assertIn('differs in prints and end: no rule explains it', said)
         self.assertEqual(command('check', path, '--adapter', shlex.join(dies))[0], 3)
         self.assertEqual(command('check', self.file('def\n'), '--adapter', shlex.join(good))[0], 1)
+
+    def test_check_tells_of_an_adapter_that_dies(self) -> None:
+        path = self.file(HELLO)
+        dies = shlex.join([sys.executable, '-c', DIES])
+        status, said, complaint = command('check', path, path, path, '--adapter', dies)
+        self.assertEqual((status, said.split('\n')[-2]), (1, '2 different, 1 void: died'))
+        self.assertIn('the adapter died and was started anew: status 1; it said last: out of luck', complaint)
+
+    @unittest.skipUnless(interpreter('gevent'), 'no Python here has gevent')
+    def test_what_is_intended_is_no_difference(self) -> None:
+        paths = [os.path.join(CASES, 'gevent', name + '.gvr') for name in ('sleep_first', 'overtake')]
+        for intended, status in (('', 1), ('sleep_first', 1), ('sleep_first,overtake', 0), ('gevent', 0)):
+            with self.subTest(intended):
+                self.assertEqual(command('check', *paths, '--intended', intended)[0], status)
+        said = command('check', *paths, '--intended', 'sleep_first')[1]
+        self.assertEqual([' '.join(line.split()) for line in said.split('\n')[:3]], [
+            'sleep_first.gvr same', 'overtake.gvr differs in prints and end: overtake', '1 different, 1 same'])
+
+    def test_what_no_program_says_is_told(self) -> None:
+        path = self.file('rawdef r x\nend\ndef main\n  raw r\nend\n')
+        status, _, complaint = command('python', path)
+        self.assertEqual(status, 3)
+        self.assertIn('cannot be written as a gevent program: rawdef r', complaint)
 
     def test_show_tells_the_first_difference(self) -> None:
         bad = shlex.join([sys.executable, '-c', ANSWERS.replace('1', '2')])

@@ -29,6 +29,9 @@ class SmallestAdapter(unittest.TestCase):
         self.adapter = Adapter(ADAPTER)
         self.addCleanup(self.adapter.close)
 
+    def test_it_is_small(self) -> None:
+        self.assertLessEqual(len(pathlib.Path(ADAPTER[1]).read_text().splitlines()), 60)
+
     def test_two_sleepers_of_one_moment_go_on_in_order(self) -> None:
         events = self.adapter.run(SAME)
         self.assertEqual(outcome(events), "g1 1; g2 2; g0 3; end")

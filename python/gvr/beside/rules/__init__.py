@@ -21,7 +21,8 @@ GEVENT: Tuple[Type[Rule], ...] = (
     gevent_crews.OneJobMore, gevent_crews.JobLast, gevent.LostWake, gevent.LateReads, gevent_crews.JoinBeforePlace,
     gevent.QueueAlternates, gevent.MainExit, gevent.SleepFirst, gevent_crews.JoinallYields, gevent_crews.CountStops,
     gevent_crews.EndsTold, gevent_crews.LeaveByLink, gevent_crews.GkillNewcomers, gevent.KillallLate, gevent.CgetYields,
-    gevent.KillerJoinsLate)
+    gevent.KillerJoinsLate, gevent.NextRound, gevent.LostSet,
+    gevent_crews.LooksLast, gevent_crews.KilledOnce, gevent_crews.GkillInTurn)
 ASYNCIO: Tuple[Type[Rule], ...] = (
     gevent.Overtake, gevent.StaleWake, gevent.LateReads, *asyncio.RULES)
 TRIO: Tuple[Type[Rule], ...] = (

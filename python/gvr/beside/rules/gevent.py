@@ -91,6 +91,7 @@ class Batches(Rule):
         self.batch = 0                                     # the kills of one statement
         self.batch_of: Dict[int, int] = {}                 # since of a kill: its batch
         self.killer: Dict[int, int] = {}                   # a batch: since of the Wake of who waits for it
+        self.survived: Dict[int, List[Handle]] = {}        # a batch: those that survived it
 
     def killed(self, g: Greenlet, st: Statement, wait: Wait, fault: Fault) -> Effect:
         self.batch += 1
@@ -131,14 +132,15 @@ class KillerFirst(Batches):
     def end(self, g: Greenlet, outcome: Outcome) -> None:
         for item in g.own.values():
             killer = None if item.ready is None else self.killer_behind(item)
-            if killer is not None and item.ready is not None:
+            if killer is not None and item.ready is not None and self.batch_of[item.since] not in self.survived:
                 self.places[killer] = item.ready
         super().end(g, outcome)
 
     def deliver(self, item: Item) -> None:
         killer = self.killer_behind(item)
         super().deliver(item)
-        if killer is not None and killer in self.items and self.holds(self.items[killer]):
+        if killer is not None and killer in self.items and self.holds(self.items[killer]) \
+                and self.batch_of[item.since] not in self.survived:
             self.items[killer].ready = None
             self.deliver(self.items[killer])
 
@@ -151,14 +153,30 @@ class KillerJoinsLate(Batches):
     def deliver(self, item: Item) -> None:
         killer = self.killer_behind(item)
         super().deliver(item)
-        if killer is not None and killer in self.items and not self.holds(self.items[killer]):
-            self.join_anew(self.items[killer])
+        if item.kind == 'kill' and item.greenlet.state != 'done':
+            self.survived.setdefault(self.batch_of[item.since], []).append(item.greenlet.handle)
+        self.join_anew(killer, self.batch_of.get(item.since, 0))
 
-    def join_anew(self, wake: Item) -> None:
-        """The wait begins once more, behind all others."""
-        del self.items[wake.since], wake.greenlet.own[wake.since]
-        wake.since, self.next_since = self.next_since, self.next_since + 1
-        self.items[wake.since] = wake.greenlet.own[wake.since] = wake
+    def end(self, g: Greenlet, outcome: Outcome) -> None:
+        kills = [(self.killer_behind(item), self.batch_of[item.since]) for item in g.own.values() if item.kind == 'kill']
+        super().end(g, outcome)
+        for killer, batch in kills:
+            self.join_anew(killer, batch)
+
+    def join_anew(self, killer: Optional[int], batch: int) -> None:
+        """The killer joins those that survived, behind all others, and after a kill with its whole time."""
+        if killer is None or killer not in self.items or batch not in self.survived:
+            return
+        wake = self.items[killer]
+        g, wait, late = wake.greenlet, wake.parked, self.own_item(wake.greenlet, 'late')
+        self.remove(wake)
+        joins = Wait(wait.word, None, None, 'join')
+        joins.targets = self.survived[batch]
+        self.add('wake', g, None, joins)
+        if late is not None and wait.kind == 'kill':
+            self.remove(late)
+            self.add('late', g, late.deadline, joins, n=late.n)
+        self.settle()
 
 
 class SharedNotify(Rule):
@@ -171,6 +189,7 @@ class SharedNotify(Rule):
     def __init__(self, *arguments: Any) -> None:
         super().__init__(*arguments)
         self.told_by: Dict[int, Teller] = {}               # since of a joinall of several: the one whose end decided
+        self.told_at: Dict[int, Dict[Teller, int]] = {}    # and where in the line each of them tells it
 
     def place_of(self, item: Item) -> int:
         if self.joins_several(item):
@@ -178,12 +197,27 @@ class SharedNotify(Rule):
         teller = teller_of(item)
         if teller is None or item.since in self.too_late:
             return super().place_of(item)
+        if item.since not in self.yielded and self.told_last(teller):
+            return self.place_before(self.told_last(teller))
         last = self.last_told(teller)
         if last is None and self.told is not None and self.told[0] == teller:
             last = self.told[1]
         if last is None and self.pending.get(teller, -1) > self.delivering:
             last = self.pending[teller]                   # it stands there, though whom it was to tell is gone
         return super().place_of(item) if last is None else last + 1
+
+    def told_last(self, teller: Teller) -> List[Item]:
+        """Those that it tells behind those that had to wait."""
+        return [x for x in self.items.values()
+                if x.ready is not None and x.since in self.yielded and teller_of(x) == teller]
+
+    @staticmethod
+    def place_before(items: List[Item]) -> int:
+        """The place of the first of these, which all make room."""
+        place = min(item.ready for item in items if item.ready is not None)
+        for item in items:
+            item.ready = None if item.ready is None else item.ready + 1
+        return place
 
     def last_told(self, teller: Teller) -> Optional[int]:
         """The last place of those that this one tells."""
@@ -197,13 +231,18 @@ class SharedNotify(Rule):
         """One that joins several is told of each; it goes on where it is told of the last that it needs."""
         wait = item.parked
         need = wait.need if wait.kind == 'joinall' else len(wait.targets)
-        tellers: List[Teller] = [('greenlet', whom.g) for whom in wait.targets if isinstance(whom, G) and self.ended(whom)]
-        told = sorted((self.telling_at(teller), i, teller) for i, teller in enumerate(tellers))
+        known = self.told_at.get(item.since, {})
+        told = sorted((known[teller] if teller in known else self.telling_at(teller), i, teller)
+                      for i, teller in enumerate(self.ended_of_several(wait)))
         if not told or not need:
             return super().place_of(item)
         place, _, teller = told[min(need, len(told)) - 1]
         self.told_by[item.since] = teller
         return max(place, self.last_told(teller) or 0) + 1
+
+    def ended_of_several(self, wait: Wait) -> List[Teller]:
+        """Those that have ended of the greenlets that it joins."""
+        return [('greenlet', whom.g) for whom in wait.targets if isinstance(whom, G) and self.ended(whom)]
 
     def telling_at(self, teller: Teller) -> int:
         """The place at which one that has ended tells it: just now, where it stands in the line, or behind all."""
@@ -217,10 +256,89 @@ class SharedNotify(Rule):
     def teller(self, item: Item) -> Optional[Teller]:
         return self.told_by.get(item.since) or super().teller(item)
 
+    def wait_for(self, g: Greenlet, st: Statement, wait: Wait) -> Effect:
+        effect = super().wait_for(g, st, wait)
+        wake = self.own_item(g, 'wake')
+        if wake is not None and wake.parked is wait and self.joins_several(wake):
+            self.told_at[wake.since] = {teller: self.telling_at(teller) for teller in self.ended_of_several(wait)}
+        return effect
+
+    def linked(self, g: Greenlet, st: Statement, kind: str, thing: Optional[Thing] = None) -> Effect:
+        """A link to one that has ended makes it tell its links once more, also where this one is for another end."""
+        whom = self.greenlets[self.greenlet_of(self.value_of(st.operands[0], g)).g]
+        effect = super().linked(g, st, kind, thing)
+        if whom.state == 'done':
+            self.telling_at(('greenlet', whom.number))
+        return effect
+
     def end(self, g: Greenlet, outcome: Outcome) -> None:
-        if any(self.joins_several(item) and g.handle in item.parked.targets for item in self.items.values()):
-            self.telling_at(('greenlet', g.number))
+        teller: Teller = 'greenlet', g.number
+        if any(item.kind == 'link' for item in g.own.values()):
+            self.telling_at(teller)
+        for item in self.items.values():
+            if self.joins_several(item) and g.handle in item.parked.targets:
+                self.told_at.setdefault(item.since, {})[teller] = self.telling_at(teller)
         super().end(g, outcome)
+
+
+class Rounds(Rule):
+    """What the two rules on rounds share: an object wakes in one round those that waited when the round began."""
+
+    def __init__(self, *arguments: Any) -> None:
+        super().__init__(*arguments)
+        self.rounds: Dict[Teller, int] = {}                # who wakes just now: the since from which one is too late
+
+    def is_too_late(self, item: Item) -> bool:
+        """Whether it began to wait after the round began that its object makes just now."""
+        teller = teller_of(item) if item.kind == 'wake' else None
+        if teller not in self.rounds or item.since < self.rounds[teller] or item.parked.kind in QUEUE_WAITS:
+            return False
+        return item.since not in self.yielded or item.since in self.too_late
+
+    def deliver(self, item: Item) -> None:
+        teller = self.teller(item)
+        if teller is None or teller[0] == 'greenlet' or item.ready is None:
+            super().deliver(item)
+            return
+        self.rounds.setdefault(teller, self.next_since)
+        super().deliver(item)
+        late = [x for x in self.items.values() if teller_of(x) == teller and self.is_too_late(x)]
+        if not any(x.ready is not None and teller_of(x) == teller and x not in late for x in self.items.values()):
+            self.rounds.pop(teller, None)
+            self.round_is_over(late)
+
+    def round_is_over(self, late: List[Item]) -> None:
+        """These began to wait while the round went on."""
+
+
+class NextRound(Rounds):
+    name, root = 'next_round', '3'
+    says = 'who begins to wait on an object while it wakes those that waited before is woken in a round behind that one'
+    source = 'gevent/_abstract_linkable.py, AbstractLinkable._notify_link_list goes up to the link that was last when ' \
+             'it began; _notify_links: _check_and_notify behind it'
+
+    def holds(self, item: Item) -> bool:
+        return not self.is_too_late(item) and super().holds(item)
+
+    def round_is_over(self, late: List[Item]) -> None:
+        super().round_is_over(late)
+        self.settle()
+
+
+class LostSet(Rounds):
+    name, root = 'lost_set', '2'
+    says = 'a bug of gevent: set and clear by one that an event woke, while it wakes others, wake nobody'
+    source = 'gevent/_abstract_linkable.py, AbstractLinkable._check_and_notify: no notifier is made while one runs, ' \
+             'and behind that one the flag is looked at'
+    documentation = 'gevent breaks it. Event: "as soon as the flag is set to true, all greenlets that are currently ' \
+                    'blocked in a call to wait will be scheduled to awaken"'
+
+    def round_is_over(self, late: List[Item]) -> None:
+        super().round_is_over(late)
+        for item in late:
+            if item.parked.kind == 'wait' and not item.parked.thing.is_set:
+                item.parked.sets = item.parked.thing.sets
+        self.settle()
 
 
 class ZeroLast(Rule):
@@ -243,17 +361,10 @@ class ZeroLast(Rule):
     def holds(self, item: Item) -> bool:
         return item.since not in self.zeros and super().holds(item)
 
-    def turn(self) -> None:
-        if not self.zeros or self.least_ready() is not None:
-            super().turn()
-            return
-        if self.turns == self.most_turns:
-            raise Stop('no-turns')
-        self.turns += 1
-        self.zeros = set()
-        self.looking = True
-        self.settle()
-        self.looking = False
+    def end_of_turn(self) -> None:
+        if self.least_ready() is None:
+            self.zeros = set()                             # they come with what the world tells now
+        super().end_of_turn()
 
 
 class ValueStays(Rule):

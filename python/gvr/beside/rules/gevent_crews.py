@@ -1,11 +1,14 @@
 """The rules of gevent 22.10.2 on joinall, groups, pools, maps and jobs."""
-from typing import Any, Dict, List, Optional, Tuple
+from typing import Any, Dict, List, Optional, Set, Tuple
 
 from ...model.items import ENDLESS, NEWCOMER, PARKED, Effect, Greenlet, Item, Job, Link, Thing, Wait
 from ...model.tree import Function, Statement
 from ...model.values import Fault, G, Handle, J, Outcome, Value
 from ...model.worlds import Answer
 from .rule import GAP, Rule, teller_of
+
+
+HELPER = -1                      # the number of greenlets that no scenario sees
 
 
 class EndingOrder(Rule):
@@ -133,9 +136,40 @@ class GkillNewcomers(Rule):
         wait.targets = members
         self.park(g, wait)
         fault = next(fault for each, fault in self.faults if each is wait)
+        self.kills_members = True
         for member in new:
             self.hit(member, fault)
+        self.kills_members = False
         return None
+
+
+class KilledOnce(Rule):
+    name, root = 'killed_once', '9'
+    says = 'gkill kills each member once: one that survived is not killed again'
+    source = 'gevent/pool.py, Group.kill: those in self.dying are left out'
+    documentation = 'gevent breaks it. Group.kill: "Kill all greenlets being tracked by this group"'
+
+    def __init__(self, *arguments: Any) -> None:
+        super().__init__(*arguments)
+        self.dying: Set[Handle] = set()
+
+    def hit(self, target: Handle, fault: Fault) -> None:
+        if self.kills_members and target in self.dying:
+            return
+        if self.kills_members:
+            self.dying.add(target)
+        super().hit(target, fault)
+
+
+class GkillInTurn(Rule):
+    name, root = 'gkill_in_turn', '3'
+    says = 'each kill of a gkill has its place at once: a throw stands before the links of one that had not begun'
+    source = 'gevent/pool.py, Group.kill: greenlet.kill(block=False) of each'
+
+    def hit(self, target: Handle, fault: Fault) -> None:
+        super().hit(target, fault)
+        if self.kills_members:
+            self.settle()
 
 
 class JoinBeforePlace(Rule):
@@ -160,15 +194,13 @@ class MapByHelper(Rule):
             return super().do_map(g, st)
         wait = Helped(g, self.objects[st.thing], st.into)
         wait.function, wait.arguments = self.functions[st.function], list(elements)
-        self.add('helper', self.greenlets[0], wait=wait)             # it lives on, whatever becomes of the caller
+        self.add('helper', Greenlet(HELPER, wait.function, [], False, 0), wait=wait)      # it outlives this wait
         return self.park(g, wait)
 
     def holds(self, item: Item) -> bool:
-        if item.kind == 'helper':
-            return not item.parked.arguments or item.parked.thing.free() > 0
         if item.kind == 'wake' and item.parked.kind == 'helped':
             return False                                            # its helper's end lets it go on
-        return item.kind == 'told' or super().holds(item)
+        return item.kind in ('helper', 'told') or super().holds(item)
 
     def deliver(self, item: Item) -> None:
         if item.kind not in ('helper', 'told'):
@@ -179,7 +211,7 @@ class MapByHelper(Rule):
         wait = item.parked
         assert isinstance(wait, Helped)
         if item.kind == 'helper':
-            self.help(wait)
+            self.help(item.greenlet, wait)
             return
         wake = self.own_item(wait.caller, 'wake')
         if wake is not None and wake.parked is wait:
@@ -187,16 +219,28 @@ class MapByHelper(Rule):
         else:
             self.settle()
 
-    def help(self, wait: 'Helped') -> None:
-        """The helper makes members as long as there are places, then reads their results in order."""
-        assert wait.function is not None
-        while wait.arguments and wait.thing.free() > 0:
-            wait.targets = [*wait.targets, self.admit(wait.thing, wait.function, [wait.arguments.pop(0)])]
-            self.settle()
-        if wait.arguments:
-            self.add('helper', self.greenlets[0], wait=wait)
+    def woken(self, g: Greenlet, wake: Item) -> None:
+        if isinstance(wake.parked, HelpersPlace):
+            self.make_member(wake.parked.helped)
+            self.help(g, wake.parked.helped)
+        else:
+            super().woken(g, wake)
+
+    def help(self, helper: Greenlet, wait: 'Helped') -> None:
+        """The helper makes members, and waits for each place as others do; then it reads their results in order."""
+        while wait.arguments:
+            place = HelpersPlace(wait)
+            if not self.wait_holds(place, NEWCOMER):
+                self.add('wake', helper, wait=place)
+                break
+            self.make_member(wait)
         else:
             self.read_results(wait)
+        self.settle()
+
+    def make_member(self, wait: 'Helped') -> None:
+        assert wait.function is not None
+        wait.targets = [*wait.targets, self.admit(wait.thing, wait.function, [wait.arguments.pop(0)])]
         self.settle()
 
     def read_results(self, wait: 'Helped') -> None:
@@ -235,6 +279,15 @@ class Helped(Wait):
     def __init__(self, caller: Greenlet, thing: Thing, into: Optional[str]) -> None:
         super().__init__('map', thing, into, 'helped')
         self.caller = caller
+
+
+class HelpersPlace(Wait):
+    """The wait of a map's helper for a place."""
+    __slots__ = ('helped',)
+
+    def __init__(self, helped: Helped) -> None:
+        super().__init__('map', helped.thing, None, 'mapplace')
+        self.helped = helped
 
 
 class ResultLink(Link):
@@ -330,3 +383,13 @@ class JobLast(Rule):
         self.settle()                                                # those that wait for a thread are told first
         job.outcome = answer.outcome
         self.settle()
+
+
+class LooksLast(Rule):
+    name, root = 'looks_last', '5'
+    says = 'the loop looks at the world when nobody is ready, and not after each turn: jobs are told of later'
+    source = 'gevent/_ffi/loop.py, _run_callbacks: runs callbacks, also those that come meanwhile, until none is left'
+
+    def end_of_turn(self) -> None:
+        if self.least_ready() is None:
+            super().end_of_turn()

@@ -9,7 +9,7 @@ from typing import Any, Dict, List, Optional, Set, Tuple
 from ...model.items import NEWCOMER, Effect, Greenlet, Item, Thing, Wait
 from ...model.machine import Machine
 from ...model.tree import Statement
-from ...model.values import G, Handle, Outcome, Scalar
+from ...model.values import Fault, G, Handle, Outcome, Scalar
 from ...model.worlds import Answer
 
 GAP = 2**32                       # ready numbers are multiples of it, but for those that a rule puts behind another
@@ -52,6 +52,7 @@ class Ruled(Machine):
         self.yielded: Set[int] = set()                    # since of those that need not have waited
         self.too_late: Set[int] = set()                   # since of those of them that this telling does not reach
         self.ended_before: List[Tuple[Wait, List[Handle]]] = []   # of each joinall those that had ended at its call
+        self.kills_members = False                        # whether a gkill kills just now
 
     # ------------------------------------------------------------ the line
 
@@ -133,6 +134,12 @@ class Ruled(Machine):
             self.too_late.add(self.next_since)
         self.yielded.add(self.next_since)
         return self.park(g, wait, st.within if self.yields_under_a_timer else None)
+
+    def killed(self, g: Greenlet, st: Statement, wait: Wait, fault: Fault) -> Effect:
+        self.kills_members = wait.kind == 'gkill'
+        effect = super().killed(g, st, wait, fault)
+        self.kills_members = False
+        return effect
 
     def wait_for(self, g: Greenlet, st: Statement, wait: Wait) -> Effect:
         if wait.kind == 'joinall':
