@@ -125,6 +125,17 @@ impl ByteQueue {
         Ok(())
     }
 
+    /// Where bytes are here, gives back the room that many took before these few, and that of a queue beside it.
+    pub fn give_back_with(&mut self, gone: &mut ByteQueue)
+        ensures own { self.new ≡ self.old }
+        ensures gone { gone.new ≡ gone.old }
+    {
+        if self.len() > 0 {
+            self.give_back_room();
+            gone.give_back_room();
+        }
+    }
+
     /// Gives room back that many bytes took, where few are left.
     fn give_back_room(&mut self)
         ensures { self.new ≡ self.old }

@@ -123,7 +123,7 @@ impl Session {
     {
         match read_request(self.alloc, self.port, &mut self.kept)? {
             Found::Waits => {
-                self.kept.take_room_of(self.alloc, &mut self.pending, 0);
+                self.kept.give_back_with(&mut self.pending);
                 Ok(false)
             }
             Found::Refused(reason) => {
