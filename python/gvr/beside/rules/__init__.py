@@ -22,8 +22,8 @@ GEVENT: Tuple[Type[Rule], ...] = (
     gevent.QueueAlternates, gevent.MainExit, gevent.SleepFirst, gevent_crews.JoinallYields, gevent_crews.CountStops,
     gevent_crews.EndsTold, gevent_crews.LeaveByLink, gevent_crews.GkillNewcomers, gevent.KillallLate, gevent.CgetYields,
     gevent.KillerJoinsLate)
-ASYNCIO: Tuple[Type[Rule], ...] = (gevent.StaleWake, gevent.LateReads, *cancels.RULES, *asyncio.RULES)
-TRIO: Tuple[Type[Rule], ...] = (*cancels.RULES, *trio.RULES)
+ASYNCIO: Tuple[Type[Rule], ...] = (gevent.StaleWake, gevent.LateReads, gevent.MainExit, *cancels.RULES, *asyncio.RULES)
+TRIO: Tuple[Type[Rule], ...] = (gevent.MainExit, *cancels.RULES, *trio.RULES)
 RUNTIMES: Dict[str, Tuple[Type[Rule], ...]] = {'gevent': GEVENT, 'asyncio': ASYNCIO, 'trio': TRIO,
                                              'go': tuple(go.RULES)}
 RULES: Dict[str, Type[Rule]] = {each.name: each for rules in RUNTIMES.values() for each in rules}

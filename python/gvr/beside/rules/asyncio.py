@@ -73,12 +73,24 @@ class UnstartedLater(Rule):
             super().deliver(item)
 
 
+class KilledAtEnd(Cancels):
+    name = 'killed_at_end'
+    says = 'a kill that was not thrown before its target returns makes it end by GreenletExit; the value is lost'
+    source = 'asyncio/tasks.py, Task.__step: StopIteration, and _must_cancel'
+    documentation = 'asyncio breaks it. Task.cancelled: "The Task is cancelled when the cancellation was requested with ' \
+                    'cancel() and the wrapped coroutine propagated the CancelledError exception thrown into it"'
+
+    def end(self, g: Greenlet, outcome: Outcome) -> None:
+        is_killed = outcome.kind == 'value' and self.own_item(g, 'kill') is not None
+        super().end(g, Outcome('fault', GREENLET_EXIT) if is_killed else outcome)
+
+
 class CancelsCount(Cancels):
     name = 'cancels_count'
     says = 'a kill that was caught still counts: a timeout or a limit behind it is thrown as a cancel, and stays one'
-    source = 'asyncio/timeouts.py, Timeout.__aexit__: uncancel() == 0 (Python 3.11.3 counts from the entry of the block)'
-    documentation = 'asyncio breaks it. asyncio.timeout: "the context manager will cancel the current task and handle ' \
-                    'the resulting asyncio.CancelledError internally, transforming it into a TimeoutError"'
+    source = 'asyncio/timeouts.py, Timeout.__aexit__: uncancel() == 0; Python 3.11.3 counts from the entry of the block'
+    documentation = 'asyncio breaks it. asyncio.timeout: "the top-most affected timeout() context manager converts ' \
+                    'CancelledError into TimeoutError"'
 
     def __init__(self, *arguments: Any) -> None:
         super().__init__(*arguments)
@@ -171,12 +183,6 @@ class QueueTells(Tells):
         else:
             self.waits_anew(item)
 
-    def waits_anew(self, wake: Item) -> None:
-        """The wait begins once more, behind all others."""
-        del self.items[wake.since], wake.greenlet.own[wake.since]
-        wake.since, self.next_since, wake.ready = self.next_since, self.next_since + 1, None
-        self.items[wake.since] = wake.greenlet.own[wake.since] = wake
-
 
 class SemaphoreTells(Tells):
     name = 'semaphore_tells'
@@ -242,4 +248,5 @@ class LockNowWaits(Cancels):
         return thing.kind != 'rlock' or since == NEWCOMER
 
 
-RULES: List[type] = [ExtraHop, QueueTells, SemaphoreTells, LockNowWaits, CancelFirst, UnstartedLater, CancelsCount]
+RULES: List[type] = [ExtraHop, QueueTells, SemaphoreTells, LockNowWaits, CancelFirst, UnstartedLater, KilledAtEnd,
+                     CancelsCount]

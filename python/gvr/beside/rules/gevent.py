@@ -152,13 +152,7 @@ class KillerJoinsLate(Batches):
         killer = self.killer_behind(item)
         super().deliver(item)
         if killer is not None and killer in self.items and not self.holds(self.items[killer]):
-            self.join_anew(self.items[killer])
-
-    def join_anew(self, wake: Item) -> None:
-        """The wait begins once more, behind all others."""
-        del self.items[wake.since], wake.greenlet.own[wake.since]
-        wake.since, self.next_since = self.next_since, self.next_since + 1
-        self.items[wake.since] = wake.greenlet.own[wake.since] = wake
+            self.waits_anew(self.items[killer])
 
 
 class SharedNotify(Rule):

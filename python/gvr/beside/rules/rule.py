@@ -134,6 +134,13 @@ class Ruled(Machine):
         self.yielded.add(self.next_since)
         return self.park(g, wait, st.within if self.yields_under_a_timer else None)
 
+    def waits_anew(self, wake: Item) -> None:
+        """The wait begins once more, behind all others."""
+        del self.items[wake.since], wake.greenlet.own[wake.since]
+        wake.since, self.next_since = self.next_since, self.next_since + 1
+        wake.ready = None
+        self.items[wake.since] = wake.greenlet.own[wake.since] = wake
+
     def wait_for(self, g: Greenlet, st: Statement, wait: Wait) -> Effect:
         if wait.kind == 'joinall':
             self.ended_before.append((wait, [whom for whom in wait.targets if self.ended(whom)]))
