@@ -12,10 +12,10 @@ import asyncio
 import functools
 import selectors
 from asyncio import CancelledError
-from typing import Any, Awaitable, Callable, Dict, List, NoReturn, Optional, TextIO, Tuple, Type
+from typing import Any, Awaitable, Callable, Dict, List, Optional, Tuple, Type
 
-from .protocol import PLAIN, Fault, G, Unsupported, Value, kind_of, serve, serve_options, value_text
-from .tasks import MS, VOID, Names, Returned, TaskRun, Tree
+from .protocol import PLAIN, Fault, G, Unsupported, Value, kind_of, value_text
+from .tasks import MS, VOID, Names, Returned, TaskRun, Tree, serve_runs
 
 EXC: Dict[str, Type[BaseException]] = dict(PLAIN, GreenletExit=CancelledError, Empty=asyncio.QueueEmpty, Full=asyncio.QueueFull)
 QUEUES = {'fifo': asyncio.Queue, 'join': asyncio.Queue, 'lifo': asyncio.LifoQueue, 'prio': asyncio.PriorityQueue}
@@ -134,8 +134,11 @@ class Run(TaskRun):
         except BaseException as e:
             self.failed(n, e)
             raise
-        self.outcomes[n] = ('value', v)
-        self.ended(n)
+        if getattr(self.tasks[n], '_must_cancel'):               # killed, and not thrown into before its end
+            self.failed(n, CancelledError())
+        else:
+            self.outcomes[n] = ('value', v)
+            self.ended(n)
         return v
 
     def go(self) -> 'Run':
@@ -174,12 +177,6 @@ class Run(TaskRun):
             raise TypeError
         return self.tasks[v.g]
 
-    def obj(self, st: Tree) -> Any:
-        o = self.objects[st['obj']]
-        if o is None:
-            raise Unsupported(st['do'])
-        return o
-
     async def timed(self, st: Tree, make: Callable[[], Awaitable[Any]], late: Callable[[], Any]) -> Any:
         """Await make() for at most `within`; late() tells what it gives then."""
         limit = self.limit(st)
@@ -192,11 +189,6 @@ class Run(TaskRun):
             if not scope.expired():
                 raise
         return late()
-
-    def raises(self, cls: Type[BaseException]) -> Callable[[], Any]:
-        def late() -> NoReturn:
-            raise cls
-        return late
 
     def timeout_now(self) -> 'NumberedTimeout':
         self.timeouts += 1
@@ -292,9 +284,6 @@ class Run(TaskRun):
 
     # ------------------------------------------------------------ events, results, semaphores, locks, queues
 
-    async def do_set(self, st: Tree, env: Names) -> Any:
-        self.obj(st).set()
-
     async def do_clear(self, st: Tree, env: Names) -> Any:
         self.obj(st).clear()
 
@@ -359,13 +348,13 @@ class Run(TaskRun):
         if self.limit(st) == 'now':
             return q.put_nowait(v)
         put: Callable[[], Awaitable[Any]] = functools.partial(q.put, v)
-        await self.timed(st, put, self.raises(asyncio.QueueFull))
+        await self.timed(st, put, self.raises('Full'))
 
     async def do_qget(self, st: Tree, env: Names) -> Any:
         q = self.obj(st)
         if self.limit(st) == 'now':
             return q.get_nowait()
-        return await self.timed(st, q.get, self.raises(asyncio.QueueEmpty))
+        return await self.timed(st, q.get, self.raises('Empty'))
 
     async def do_qdone(self, st: Tree, env: Names) -> Any:
         self.obj(st).task_done()
@@ -377,18 +366,5 @@ class Run(TaskRun):
         return await self.timed(st, join, lambda: False)
 
 
-def main() -> None:
-    parser = argparse.ArgumentParser()
-    serve_options(parser)
-    options = parser.parse_args()
-    options.fork = False
-
-    def run_one(tree: Tree, out: TextIO) -> Run:
-        run = Run(tree, options).go()
-        run.log.write(out)
-        return run
-    serve(run_one, options)
-
-
 if __name__ == '__main__':
-    main()
+    serve_runs(Run)

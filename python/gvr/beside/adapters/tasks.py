@@ -4,9 +4,10 @@ A runtime's own adapter makes the objects, and has an async method do_WORD for e
 what it has no method for is Unsupported.
 """
 import argparse
-from typing import Any, Dict, List, Optional, Set, Tuple, Type
+from typing import Any, Callable, Dict, List, NoReturn, Optional, Set, TextIO, Tuple, Type
 
-from .protocol import (Budget, Err, Evaluator, Fault, Log, Unsupported, Value, catches, truth, value_text)
+from .protocol import (Budget, Err, Evaluator, Fault, Log, Unsupported, Value, catches, serve, serve_options, truth,
+                       value_text)
 
 Tree = Dict[str, Any]
 Names = Dict[str, Value]
@@ -59,6 +60,10 @@ class TaskRun:
         """A `timeout` block."""
         raise NotImplementedError
 
+    def go(self) -> 'TaskRun':
+        """The whole run."""
+        raise NotImplementedError
+
     # ------------------------------------------------------------ faults, queries
 
     def to_exc(self, f: Any) -> BaseException:
@@ -102,7 +107,7 @@ class TaskRun:
     def failed(self, n: int, e: BaseException) -> None:
         """Task n ends by this exception."""
         fault = self.to_fault(e)
-        self.outcomes[n] = ('value' if fault.kind == 'GreenletExit' else 'fault', fault)
+        self.outcomes[n] = ('value' if fault.kind == 'GreenletExit' and n != 0 else 'fault', fault)
         self.ended(n)
 
     def ended(self, n: int) -> None:
@@ -208,7 +213,37 @@ class TaskRun:
             raise TypeError
         return v
 
+    def obj(self, st: Tree) -> Any:
+        """The object of a statement."""
+        o = self.objects[st['obj']]
+        if o is None:
+            raise Unsupported(st['do'])
+        return o
+
+    def raises(self, kind: str) -> Callable[[], Any]:
+        """What raises the exception of this kind of fault."""
+        def late() -> NoReturn:
+            raise self.exceptions[kind]
+        return late
+
+    async def do_set(self, st: Tree, env: Names) -> Any:
+        self.obj(st).set()
+
     def limit(self, st: Tree) -> Any:
         """Seconds of `within`; None if there is none; 'now' for `now`."""
         w = st.get('wait')
         return None if w is None else 'now' if w[0] == 'now' else w[1] * MS
+
+
+def serve_runs(run: Type[TaskRun]) -> None:
+    """Serve trees, each by one such run."""
+    parser = argparse.ArgumentParser()
+    serve_options(parser)
+    options = parser.parse_args()
+    options.fork = False
+
+    def run_one(tree: Tree, out: TextIO) -> TaskRun:
+        done = run(tree, options).go()
+        done.log.write(out)
+        return done
+    serve(run_one, options)

@@ -15,13 +15,13 @@ always in its order); equal deadlines, and the tasks that wait for an Event, com
 import argparse
 import functools
 import math
-from typing import Any, Awaitable, Callable, Dict, List, NoReturn, Optional, TextIO, Tuple, Type
+from typing import Any, Awaitable, Callable, Dict, List, Optional, Tuple, Type
 
 import trio
 from trio._core import _run as run_loop
 
-from .protocol import PLAIN, Fault, G, Unsupported, Value, kind_of, serve, serve_options, value_text
-from .tasks import MS, VOID, Names, Returned, TaskRun, Tree
+from .protocol import PLAIN, Fault, G, Unsupported, Value, kind_of, value_text
+from .tasks import MS, VOID, Names, Returned, TaskRun, Tree, serve_runs
 
 EXC: Dict[str, Type[BaseException]] = dict(PLAIN, GreenletExit=trio.Cancelled)
 GRAIN = 2.0 ** -40               # between equal deadlines: trio's heap has no order of them, here it is that of making
@@ -171,7 +171,7 @@ class Run(TaskRun):
         self.ends[n].set()
         if n == 0:
             kind, v = self.outcomes.get(0, ('value', None))
-            self.stop(('fault ' if v == Fault('GreenletExit') else kind + ' ') + value_text(v))
+            self.stop('%s %s' % (kind, value_text(v)))
 
     async def body(self, n: int, f: Tree, args: List[Value]) -> None:
         try:
@@ -237,12 +237,6 @@ class Run(TaskRun):
         if kind_of(v) != 'list':
             raise TypeError
         return [self.number(x) for x in v]
-
-    def obj(self, st: Tree) -> Any:
-        o = self.objects[st['obj']]
-        if o is None:
-            raise Unsupported(st['do'])
-        return o
 
     async def timed(self, st: Tree, wait: Callable[[], Awaitable[Any]], late: Callable[[], Any]) -> Any:
         """Await wait() for at most `within`; late() tells what it gives then."""
@@ -319,9 +313,6 @@ class Run(TaskRun):
 
     # ------------------------------------------------------------ events, semaphores, locks, queues
 
-    async def do_set(self, st: Tree, env: Names) -> Any:
-        self.obj(st).set()
-
     async def do_wait(self, st: Tree, env: Names) -> Any:
         waited = self.obj(st)
         if self.limit(st) == 'now':
@@ -354,15 +345,10 @@ class Run(TaskRun):
     async def do_release(self, st: Tree, env: Names) -> Any:
         self.obj(st).release()
 
-    def fails(self, kind: str) -> Callable[[], Any]:
-        def late() -> NoReturn:
-            raise EXC[kind]
-        return late
-
     async def do_qput(self, st: Tree, env: Names) -> Any:
         sender, v = self.obj(st)[0], self.ev(st['e'], env)
         if self.limit(st) != 'now':
-            return await self.timed(st, functools.partial(sender.send, v), self.fails('Full'))
+            return await self.timed(st, functools.partial(sender.send, v), self.raises('Full'))
         try:
             sender.send_nowait(v)
         except trio.WouldBlock:
@@ -371,26 +357,12 @@ class Run(TaskRun):
     async def do_qget(self, st: Tree, env: Names) -> Any:
         receiver = self.obj(st)[1]
         if self.limit(st) != 'now':
-            return await self.timed(st, receiver.receive, self.fails('Empty'))
+            return await self.timed(st, receiver.receive, self.raises('Empty'))
         try:
             return receiver.receive_nowait()
         except trio.WouldBlock:
             raise EXC['Empty'] from None
 
 
-def main() -> None:
-    """Serve trees."""
-    parser = argparse.ArgumentParser()
-    serve_options(parser)
-    options = parser.parse_args()
-    options.fork = False
-
-    def run_one(tree: Tree, out: TextIO) -> Run:
-        run = Run(tree, options).go()
-        run.log.write(out)
-        return run
-    serve(run_one, options)
-
-
 if __name__ == '__main__':
-    main()
+    serve_runs(Run)

@@ -9,7 +9,7 @@ from functools import lru_cache
 from itertools import combinations
 from typing import Callable, Dict, FrozenSet, Optional, Sequence, Tuple, Type
 
-from . import asyncio, gevent, gevent_crews, go, trio
+from . import asyncio, cancels, gevent, gevent_crews, go, trio
 from .rule import Rule, Ruled
 
 __all__ = ['Rule', 'Ruled', 'add_rules', 'explain', 'machine_with', 'meaning', 'names', 'rule', 'sets']
@@ -23,10 +23,8 @@ GEVENT: Tuple[Type[Rule], ...] = (
     gevent_crews.EndsTold, gevent_crews.LeaveByLink, gevent_crews.GkillNewcomers, gevent.KillallLate, gevent.CgetYields,
     gevent.KillerJoinsLate, gevent.NextRound, gevent.LostSet,
     gevent_crews.LooksLast, gevent_crews.KilledOnce, gevent_crews.GkillInTurn)
-ASYNCIO: Tuple[Type[Rule], ...] = (
-    gevent.Overtake, gevent.StaleWake, gevent.LateReads, *asyncio.RULES)
-TRIO: Tuple[Type[Rule], ...] = (
-    asyncio.TimeoutIsCancel, asyncio.CancelsMerge, asyncio.CancelFirst, asyncio.HandedAtRelease, *trio.RULES)
+ASYNCIO: Tuple[Type[Rule], ...] = (gevent.StaleWake, gevent.LateReads, gevent.MainExit, *cancels.RULES, *asyncio.RULES)
+TRIO: Tuple[Type[Rule], ...] = (gevent.MainExit, *cancels.RULES, *trio.RULES)
 RUNTIMES: Dict[str, Tuple[Type[Rule], ...]] = {'gevent': GEVENT, 'asyncio': ASYNCIO, 'trio': TRIO,
                                              'go': tuple(go.RULES)}
 RULES: Dict[str, Type[Rule]] = {each.name: each for rules in RUNTIMES.values() for each in rules}

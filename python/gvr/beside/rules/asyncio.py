@@ -1,94 +1,18 @@
-"""The rules of asyncio (Python 3.11), beside those of gevent's that it shares."""
+"""The rules of asyncio (Python 3.11.2), beside those in `cancels` that it shares with trio, and gevent's."""
 from typing import Any, Dict, List, Optional, Set
 
-from ...model.items import NEWCOMER, Effect, Ended, Greenlet, Item, Pending, Thing, Wait
+from ...model.items import NEWCOMER, Effect, Greenlet, Item, Thing, Wait
 from ...model.tree import Statement
-from ...model.values import GREENLET_EXIT, VALUE_ERROR, Fault, G, Handle, Outcome, Raised, Value, fault_text, timeout_fault
-from .rule import Rule, Ruled
+from ...model.values import GREENLET_EXIT, Fault, G, Handle, Outcome, fault_text
+from .cancels import Cancels
+from .rule import Rule
 
 TASK_WAITS = ('join', 'get', 'kill', 'killall', 'joinall', 'rget', 'rwait')
+TIMED = ('wait', 'acquire', 'qput', 'qget', 'qjoin')        # what `within` puts under asyncio.timeout
+OTHER_SIDE = {'qput': 'qget', 'qget': 'qput'}
 
 
-class Cancels(Rule):
-    """What the two rules on cancels share: the count of those that are under way, and how one is thrown."""
-
-    merges = False
-
-    def __init__(self, *arguments: Any) -> None:
-        super().__init__(*arguments)
-        self.fired: Set[int] = set()                          # numbers of Timeouts that were thrown
-        self.cancelling: Dict[int, int] = {}                  # of each greenlet
-        self.entered: Dict[int, int] = {}                     # the same as it was when Timeout n's block was entered
-
-    def do_timeout(self, g: Greenlet, st: Statement) -> Effect:
-        effect = super().do_timeout(g, st)
-        self.entered[self.timeouts] = self.cancelling.get(g.number, 0)
-        return effect
-
-    def cancelled(self, item: Item) -> None:
-        """Throw a cancel: for this item, and where cancels merge for all that are ready."""
-        g = item.greenlet
-        merged = [x for x in g.own.values() if x.kind in ('kill', 'timeout') and x.ready is not None]
-        for each in merged if self.merges else [item]:
-            self.remove(each)
-            self.cancelling[g.number] = self.cancelling.get(g.number, 0) + 1
-            if each.kind == 'timeout' and each.n is not None:
-                self.fired.add(each.n)
-        self.thrown(g, GREENLET_EXIT)
-
-
-class TimeoutIsCancel(Cancels):
-    name = 'timeout_is_cancel'
-    says = 'a timeout is thrown as a cancel, and becomes a Timeout where its block ends'
-    source = 'asyncio/timeouts.py, Timeout._on_timeout and __aexit__'
-
-    def deliver(self, item: Item) -> None:
-        if item.kind == 'timeout':
-            self.cancelled(item)
-        else:
-            super().deliver(item)
-
-    def unwind(self, g: Greenlet, pending: Pending) -> Optional[Ended]:
-        stack = g.stack                                       # who runs it keeps this list
-        while stack:
-            if stack[-1].kind == 'timeout':
-                frame = stack.pop()
-                self.leave_timeout(g, frame.n)
-                if self.is_its_cancel(g, frame.n, pending):
-                    if frame.statement is not None and frame.statement.option == 'silent':
-                        return None
-                    pending = Pending('fault', timeout_fault(frame.n))
-                continue
-            lower, g.stack = stack[:-1], stack[-1:]
-            ended = super().unwind(g, pending)
-            stack[:], g.stack = lower + g.stack, stack
-            if ended is None:
-                return None
-        return Ended(Outcome('value' if pending.kind == 'return' else 'fault', pending.what))
-
-    def is_its_cancel(self, g: Greenlet, n: int, pending: Pending) -> bool:
-        """Whether what leaves the block of Timeout n is the cancel that it threw."""
-        if n not in self.fired:
-            return False
-        self.cancelling[g.number] -= 1
-        is_whole = not self.merges or self.cancelling[g.number] <= self.entered.get(n, 0)
-        return is_whole and pending == Pending('fault', GREENLET_EXIT)
-
-
-class CancelsMerge(Cancels):
-    name = 'cancels_merge'
-    says = 'kills and timeouts of one moment are one throw; it counts as the outermost of them'
-    source = 'asyncio/tasks.py, Task.cancel and uncancel; asyncio/timeouts.py, Timeout.__aexit__'
-    merges = True
-
-    def deliver(self, item: Item) -> None:
-        if item.kind == 'kill':
-            self.cancelled(item)
-        else:
-            super().deliver(item)
-
-
-class ExtraHop(Rule):
+class ExtraHop(Cancels):
     name = 'extra_hop'
     says = 'join, get and waits for a result go on one step later'
     source = 'asyncio/tasks.py, _wait: a future of its own stands behind the done callback'
@@ -97,8 +21,15 @@ class ExtraHop(Rule):
         super().__init__(*arguments)
         self.hopped: Set[int] = set()
 
+    def tells(self, item: Item) -> bool:
+        return super().tells(item) and not self.hops(item)
+
+    def hops(self, item: Item) -> bool:
+        """Whether what is waited for is there, and the one that waits is not told yet."""
+        return item.kind == 'wake' and item.parked.kind in TASK_WAITS and item.since not in self.hopped
+
     def deliver(self, item: Item) -> None:
-        if item.kind == 'wake' and item.parked.kind in TASK_WAITS and item.since not in self.hopped:
+        if self.hops(item):
             self.hopped.add(item.since)
             item.ready = None
             self.settle()
@@ -106,16 +37,13 @@ class ExtraHop(Rule):
             super().deliver(item)
 
 
-class CancelFirst(Rule):
+class CancelFirst(Cancels):
     name = 'cancel_first'
     says = 'a kill is thrown at the next step, also if a wake stands before it in the line'
     source = 'asyncio/tasks.py, Task.cancel: _must_cancel'
 
     def deliver(self, item: Item) -> None:
-        cancel = None
-        if item.kind in ('wake', 'late'):
-            cancel = next((x for x in item.greenlet.own.values()
-                           if x.kind == 'kill' or x.kind == 'timeout' and x.ready is not None), None)
+        cancel = self.cancel_of(item.greenlet) if item.kind in ('wake', 'late') and self.tells(item) else None
         if cancel is not None:
             self.deliver(cancel)
         else:
@@ -145,48 +73,180 @@ class UnstartedLater(Rule):
             super().deliver(item)
 
 
-class HandedAtRelease(Rule):
-    name = 'handed_at_release'
-    says = "a released unit is the waiter's at once and no longer counted; who comes waits behind it"
-    source = 'asyncio/locks.py, Semaphore.release and _wake_up_next'
+class KilledAtEnd(Cancels):
+    name = 'killed_at_end'
+    says = 'a kill that was not thrown before its target returns makes it end by GreenletExit; the value is lost'
+    source = 'asyncio/tasks.py, Task.__step: StopIteration, and _must_cancel'
+    documentation = 'asyncio breaks it. Task.cancelled: "The Task is cancelled when the cancellation was requested with ' \
+                    'cancel() and the wrapped coroutine propagated the CancelledError exception thrown into it"'
+
+    def end(self, g: Greenlet, outcome: Outcome) -> None:
+        is_killed = outcome.kind == 'value' and self.own_item(g, 'kill') is not None
+        super().end(g, Outcome('fault', GREENLET_EXIT) if is_killed else outcome)
+
+
+class CancelsCount(Cancels):
+    name = 'cancels_count'
+    says = 'a kill that was caught still counts: a timeout or a limit behind it is thrown as a cancel, and stays one'
+    source = 'asyncio/timeouts.py, Timeout.__aexit__: uncancel() == 0; Python 3.11.3 counts from the entry of the block'
+    documentation = 'asyncio breaks it. asyncio.timeout: "the top-most affected timeout() context manager converts ' \
+                    'CancelledError into TimeoutError"'
+
+    def __init__(self, *arguments: Any) -> None:
+        super().__init__(*arguments)
+        self.cancelling: Dict[int, int] = {}               # of each greenlet: cancels that came and were not undone
+        self.expired: Set[int] = set()                     # numbers of Timeouts that were thrown
+
+    def count(self, g: Greenlet) -> int:
+        return self.cancelling.get(g.number, 0)
+
+    def spend(self, cancel: Item) -> None:
+        self.cancelling[cancel.greenlet.number] = self.count(cancel.greenlet) + 1
+        if cancel.kind == 'timeout' and cancel.n is not None:
+            self.expired.add(cancel.n)
+        super().spend(cancel)
+
+    def leave_timeout(self, g: Greenlet, n: int) -> None:
+        super().leave_timeout(g, n)
+        if n in self.expired:
+            self.cancelling[g.number] = self.count(g) - 1
+
+    def catches_cancel(self, g: Greenlet, n: int) -> bool:
+        return n in self.expired and self.count(g) == 1
+
+    def deliver(self, item: Item) -> None:
+        if item.kind == 'late' and item.parked.kind in TIMED and self.count(item.greenlet):
+            self.thrown(item.greenlet, GREENLET_EXIT)
+        else:
+            super().deliver(item)
+
+
+class Tells(Cancels):
+    """What the two rules on messages share: who waits on an object is told by a message, once."""
+
+    def __init__(self, *arguments: Any) -> None:
+        super().__init__(*arguments)
+        self.told_ones: Set[int] = set()                   # since of those that were told
+
+    def tell_next(self, thing: Thing, kind: str) -> None:
+        """Tell the first that waits so and was not told."""
+        for item in self.items.values():
+            if item.kind == 'wake' and item.parked.object is thing and item.parked.kind == kind \
+                    and item.since not in self.told_ones and not self.is_leaving(item.greenlet):
+                self.told_ones.add(item.since)
+                return
+
+    def unpark(self, g: Greenlet) -> None:
+        wake = self.own_item(g, 'wake')
+        super().unpark(g)
+        if wake is not None and wake.since in self.told_ones:
+            self.told_ones.discard(wake.since)
+            self.gave_up(wake.parked)
+
+    def gave_up(self, wait: Wait) -> None:
+        """One that was told is thrown into before it has gone on."""
+
+
+class QueueTells(Tells):
+    name = 'queue_tells'
+    says = 'a queue tells who waits and keeps nothing for it: a newcomer may overtake, and who finds nothing waits anew, last'
+    source = 'asyncio/queues.py, Queue.get and put: while self.empty(), and _wakeup_next'
+
+    def there_is(self, wait: Wait) -> bool:
+        """Whether the queue has what is waited for."""
+        return bool(wait.thing.items) if wait.kind == 'qget' else wait.thing.free() > 0
 
     def wait_holds(self, wait: Wait, since: int) -> bool:
-        if wait.kind == 'acquire' and wait.thing.kind != 'rlock' and since == NEWCOMER:
-            return wait.thing.units > 0 and not Ruled.earlier(self, wait.thing, 'unit', since)
-        return super().wait_holds(wait, since)
+        if wait.kind not in OTHER_SIDE:
+            return super().wait_holds(wait, since)
+        return self.there_is(wait) if since == NEWCOMER else since in self.told_ones
 
-    def handed(self, thing: Thing) -> int:
-        """How many units are a waiter's already."""
-        return sum(1 for item in self.items.values()
-                   if item.kind == 'wake' and item.ready is not None and item.parked.object is thing)
+    def taken(self, g: Greenlet, wait: Wait, since: int) -> Optional[Outcome]:
+        outcome = super().taken(g, wait, since)
+        if wait.kind in OTHER_SIDE:
+            self.tell_next(wait.thing, OTHER_SIDE[wait.kind])
+        return outcome
 
-    def asked(self, form: str, name: str) -> Value:
-        value = super().asked(form, name)
-        return value - self.handed(self.objects[name]) if form == 'counter' and isinstance(value, int) else value
+    def gave_up(self, wait: Wait) -> None:
+        if wait.kind not in OTHER_SIDE:
+            super().gave_up(wait)
+        elif self.there_is(wait):
+            self.tell_next(wait.thing, wait.kind)
+
+    def deliver(self, item: Item) -> None:
+        if item.kind != 'wake' or item.since not in self.told_ones or item.parked.kind not in OTHER_SIDE:
+            super().deliver(item)
+            return
+        self.told_ones.discard(item.since)
+        if self.there_is(item.parked):
+            super().deliver(item)
+        else:
+            self.waits_anew(item)
+
+
+class SemaphoreTells(Tells):
+    name = 'semaphore_tells'
+    says = 'who comes while one that was told has not run waits behind it, also if a unit is spare, until that one runs'
+    source = 'asyncio/locks.py, Semaphore.locked, acquire and _wake_up_next'
+
+    @staticmethod
+    def is_semaphore(wait: Wait) -> bool:
+        return wait.kind == 'acquire' and wait.thing.kind != 'rlock'
+
+    def spare(self, thing: Thing) -> int:
+        """The units that are no waiter's yet."""
+        return thing.units - sum(1 for item in self.items.values()
+                                 if item.since in self.told_ones and item.parked.object is thing)
+
+    def wait_holds(self, wait: Wait, since: int) -> bool:
+        if not self.is_semaphore(wait):
+            return super().wait_holds(wait, since)
+        if since != NEWCOMER:
+            return since in self.told_ones
+        return wait.thing.units > 0 and not self.earlier(wait.thing, 'unit', since)
+
+    def tell_if_spare(self, thing: Thing) -> None:
+        if self.spare(thing) > 0:
+            self.tell_next(thing, 'acquire')
 
     def do_release(self, g: Greenlet, st: Statement) -> Effect:
+        effect = super().do_release(g, st)
         thing = self.objects[st.thing]
-        if thing.kind != 'bsem' or thing.size is None:
-            return super().do_release(g, st)
-        if thing.units - self.handed(thing) >= thing.size:
-            raise Raised(VALUE_ERROR)
-        thing.units += 1
-        self.touch(thing)
-        return None
+        if thing.kind != 'rlock':
+            self.tell_if_spare(thing)
+        return effect
+
+    def taken(self, g: Greenlet, wait: Wait, since: int) -> Optional[Outcome]:
+        self.told_ones.discard(since)
+        outcome = super().taken(g, wait, since)
+        if self.is_semaphore(wait) and since != NEWCOMER:
+            self.tell_if_spare(wait.thing)
+        return outcome
+
+    def gave_up(self, wait: Wait) -> None:
+        if self.is_semaphore(wait):
+            self.tell_if_spare(wait.thing)
+        else:
+            super().gave_up(wait)
 
 
-class LateLooks(Rule):
-    name = 'late_looks'
-    says = 'a get that is late looks once more, and gives what has come'
-    source = "the adapter's idiom for get: asyncio.wait, then done()"
+class LockNowWaits(Cancels):
+    name = 'lock_now_waits'
+    says = 'who wants a lock that is released waits until the waiter before it has run, also by `now`'
+    source = "asyncio/locks.py, Lock.locked and acquire; the adapter's idiom for `now`: not locked(), then acquire"
+    documentation = 'asyncio breaks it. Lock: "When the state is unlocked, acquire() changes the state to locked and ' \
+                    'returns immediately"'
 
-    def late(self, wait: Wait, n: Optional[int]) -> Outcome:
-        outcome = None
-        if wait.kind == 'get':
-            outcome = self.outcome_of(wait.targets[0])
-        elif wait.kind == 'rget':
-            outcome = wait.thing.outcome
-        return super().late(wait, n) if outcome is None else outcome
+    def wait_for(self, g: Greenlet, st: Statement, wait: Wait) -> Effect:
+        is_free = wait.kind == 'acquire' and wait.thing.kind == 'rlock' and wait.thing.owner is None
+        if st.now and is_free and not self.goes_on_at_once(g, wait):
+            return self.park(g, wait)
+        return super().wait_for(g, st, wait)
+
+    def left_line(self, thing: Thing, since: int) -> bool:
+        """A release looks at the first that waits, though it was killed."""
+        return thing.kind != 'rlock' or since == NEWCOMER
 
 
-RULES: List[type] = [TimeoutIsCancel, ExtraHop, CancelFirst, UnstartedLater, CancelsMerge, HandedAtRelease, LateLooks]
+RULES: List[type] = [ExtraHop, QueueTells, SemaphoreTells, LockNowWaits, CancelFirst, UnstartedLater, KilledAtEnd,
+                     CancelsCount]

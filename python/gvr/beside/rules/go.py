@@ -2,6 +2,7 @@
 from typing import Any, List, Optional, Tuple
 
 from ...model.items import Item
+from .cancels import LeavesAtOnce
 from .rule import GAP, Rule
 
 
@@ -35,4 +36,4 @@ class CloseReversed(Rule):
         return look, -item.since if is_closed else order
 
 
-RULES: List[type] = [RunsNext, CloseReversed]
+RULES: List[type] = [RunsNext, CloseReversed, LeavesAtOnce]

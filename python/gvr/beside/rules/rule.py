@@ -140,6 +140,12 @@ class Ruled(Machine):
         effect = super().killed(g, st, wait, fault)
         self.kills_members = False
         return effect
+    def waits_anew(self, wake: Item) -> None:
+        """The wait begins once more, behind all others."""
+        del self.items[wake.since], wake.greenlet.own[wake.since]
+        wake.since, self.next_since = self.next_since, self.next_since + 1
+        wake.ready = None
+        self.items[wake.since] = wake.greenlet.own[wake.since] = wake
 
     def wait_for(self, g: Greenlet, st: Statement, wait: Wait) -> Effect:
         if wait.kind == 'joinall':
