@@ -140,6 +140,7 @@ class Ruled(Machine):
         effect = super().killed(g, st, wait, fault)
         self.kills_members = False
         return effect
+
     def waits_anew(self, wake: Item) -> None:
         """The wait begins once more, behind all others."""
         del self.items[wake.since], wake.greenlet.own[wake.since]
