@@ -2,6 +2,8 @@
 #![tactic(auto)]
 
 #[cfg(test)]
+mod dialling;
+#[cfg(test)]
 mod jobs;
 #[cfg(test)]
 mod loopback;
