@@ -30,6 +30,10 @@ class Cancels(Rule):
         is_told = any(item.ready is not None and self.tells(item) for item in g.own.values())
         return not is_told and self.own_item(g, 'wake') is not None
 
+    def takes_away(self, item: Item) -> bool:
+        """Whether an item, which is in the line, takes its greenlet away from what it waits for."""
+        return item.kind in ('kill', 'timeout', 'late') and item.ready is not None
+
     def is_leaving(self, g: Greenlet) -> bool:
         """Whether a greenlet that waits stands no more in the line of those that do."""
         return False
@@ -53,6 +57,10 @@ class Cancels(Rule):
     def spend(self, cancel: Item) -> None:
         """A cancel was thrown, and comes no more."""
         self.remove(cancel)
+
+    def limit_throws(self, g: Greenlet, wait: Wait) -> bool:
+        """Whether a wait of this greenlet that is late throws a cancel."""
+        return False
 
     def under_way(self, g: Greenlet) -> Set[int]:
         """What has come to one that a cancel leaves a block of: the numbers of Timeouts; a kill is 0."""
@@ -110,7 +118,7 @@ class CancelsMerge(Cancels):
 
     def holds(self, item: Item) -> bool:
         if item.kind in CANCELS and item.ready is None and \
-                any(other.kind in CANCELS and other.ready is not None for other in item.greenlet.own.values()):
+                any(other.kind in CANCELS and self.takes_away(other) for other in item.greenlet.own.values()):
             return False
         return super().holds(item)
 
@@ -150,7 +158,7 @@ class LeavesAtOnce(Cancels):
              'out; trio/_core/_parking_lot.py, park: abort_fn; runtime/chan.go of Go, waitq.dequeue: selectDone'
 
     def is_leaving(self, g: Greenlet) -> bool:
-        return any(item.kind in ('kill', 'timeout', 'late') and item.ready is not None for item in g.own.values())
+        return any(self.takes_away(item) for item in g.own.values())
 
     def holds(self, item: Item) -> bool:
         if item.kind == 'wake' and item.ready is None and self.is_leaving(item.greenlet):

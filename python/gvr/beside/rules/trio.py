@@ -212,4 +212,39 @@ class StepFirst(Steps):
             self.settle()
 
 
-RULES: List[type] = [Checkpoints, CancelStays, KillBeatsDeadline, HandedInQueues, JoinsInTurn, StepFirst]
+class ZeroIsLate(Steps):
+    name = 'zero_is_late'
+    says = 'a wait within 0 is late also if it need not wait, two steps later'
+    source = 'trio/_core/_run.py, CancelScope.__enter__: a deadline that has come cancels, and checkpoint'
+
+    def __init__(self, *arguments: Any) -> None:
+        super().__init__(*arguments)
+        self.late_ones: Dict[int, Wait] = {}               # since of those that are late, and what they waited for
+
+    def need_not_wait(self, g: Greenlet, wait: Wait) -> bool:
+        if wait.kind in JOINS:
+            return len(wait.targets) > 0 and self.ended(wait.targets[0])
+        return bool(wait.takes) or self.goes_on_at_once(g, wait)
+
+    def wait_for(self, g: Greenlet, st: Statement, wait: Wait) -> Effect:
+        if st.within != 0 or not self.need_not_wait(g, wait):
+            return super().wait_for(g, st, wait)
+        if wait.kind == 'joinall':
+            self.ended_before.append((wait, [whom for whom in wait.targets if self.ended(whom)]))
+        self.late_ones[self.next_since] = wait
+        self.open.add(self.next_since)
+        return self.park(g, Wait('sleep', into=wait.into), 0, sleeps=True)
+
+    def deliver(self, item: Item) -> None:
+        if item.kind != 'wake' or item.since not in self.late_ones:
+            super().deliver(item)
+        elif item.since in self.open:
+            self.open.discard(item.since)
+            item.ready = None
+            self.settle()
+        else:
+            self.given[item.since] = self.late(self.late_ones.pop(item.since), None)
+            super().deliver(item)
+
+
+RULES: List[type] = [Checkpoints, CancelStays, KillBeatsDeadline, HandedInQueues, JoinsInTurn, ZeroIsLate, StepFirst]
