@@ -77,8 +77,8 @@ class KilledAtEnd(Cancels):
     name = 'killed_at_end'
     says = 'a kill that was not thrown before its target returns makes it end by GreenletExit; the value is lost'
     source = 'asyncio/tasks.py, Task.__step: StopIteration, and _must_cancel'
-    documentation = 'asyncio breaks it. Task.cancelled: "The Task is cancelled when the cancellation was requested with ' \
-                    'cancel() and the wrapped coroutine propagated the CancelledError exception thrown into it"'
+    documentation = 'asyncio breaks it. Task.cancelled: "The Task is cancelled when the cancellation was requested ' \
+                    'with cancel() and the wrapped coroutine propagated the CancelledError exception thrown into it"'
 
     def end(self, g: Greenlet, outcome: Outcome) -> None:
         is_killed = outcome.kind == 'value' and self.own_item(g, 'kill') is not None
@@ -152,7 +152,7 @@ class Tells(Cancels):
 
 class QueueTells(Tells):
     name = 'queue_tells'
-    says = 'a queue tells who waits and keeps nothing for it: a newcomer may overtake, and who finds nothing waits anew, last'
+    says = 'a queue tells who waits and keeps nothing for it: who comes may overtake, and who finds nothing waits anew'
     source = 'asyncio/queues.py, Queue.get and put: while self.empty(), and _wakeup_next'
 
     def there_is(self, wait: Wait) -> bool:

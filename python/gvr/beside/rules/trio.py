@@ -5,14 +5,13 @@ from ...model.items import NEWCOMER, Effect, Greenlet, Item, Thing, Wait
 from ...model.tree import Statement
 from ...model.values import NOTHING, Fault, G, Handle, Outcome, Value
 from .cancels import CANCELS, Cancels
-from .rule import Rule
 
 JOINS = ('joinall', 'killall')
 
 
 class Steps(Cancels):
-    """What the rules on checkpoints share: who waits only to let the others run. A cancel that comes then is thrown there
-    (`open`), or at the next wait (`shielded`)."""
+    """What the rules on checkpoints share: who waits only to let the others run. A cancel that comes then is thrown
+    there (`open`), or at the next wait (`shielded`)."""
 
     def __init__(self, *arguments: Any) -> None:
         super().__init__(*arguments)
@@ -45,8 +44,8 @@ class Checkpoints(Steps):
     name = 'checkpoints'
     says = 'an operation that need not wait has its effect at once, and then lets all others run that can'
     source = 'trio/_sync.py, Semaphore.acquire, Lock.acquire and Event.wait; trio/_channel.py, send and receive'
-    documentation = 'if you call an async function provided by Trio, and it doesn\'t raise an exception, then it always ' \
-                    'acts as a checkpoint'
+    documentation = 'if you call an async function provided by Trio, and it doesn\'t raise an exception, then it ' \
+                    'always acts as a checkpoint'
 
     def wait_for(self, g: Greenlet, st: Statement, wait: Wait) -> Effect:
         is_empty = wait.kind in JOINS and not wait.targets
@@ -150,9 +149,6 @@ class JoinsInTurn(Steps):
     def __init__(self, *arguments: Any) -> None:
         super().__init__(*arguments)
         self.turn_of: Dict[int, int] = {}                  # since of one that joins several: at which it is
-
-    def joins_several(self, item: Item) -> bool:
-        return item.since in self.turn_of
 
     def wait_for(self, g: Greenlet, st: Statement, wait: Wait) -> Effect:
         if st.now or wait.kind not in JOINS or len(wait.targets) < 2:
