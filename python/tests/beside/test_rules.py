@@ -2,6 +2,7 @@
 with it; what the minimiser made; and the machine of the rules, which without one is the model's."""
 import glob
 import os
+import sys
 import unittest
 from typing import Dict, FrozenSet, Iterator, List, Tuple
 
@@ -37,10 +38,7 @@ class Rules(unittest.TestCase):
 
     def test_each_has_a_case(self) -> None:
         for runtime, rules in sets().items():
-            found = {name for name, _ in cases(runtime)} - NO_RULE
-            self.assertEqual(found, set(rules) & found)
-        told = {name for runtime in sets() for name, _ in cases(runtime)}
-        self.assertEqual(told, set(names()) | NO_RULE)
+            self.assertEqual({name for name, _ in cases(runtime)} - NO_RULE, set(rules), runtime)
 
     def test_without_a_rule_it_is_the_models_machine(self) -> None:
         """The machine of the rules, with none turned, makes the model's trace line by line."""
@@ -60,6 +58,7 @@ class Beside:
 
     runtime = ''
     options: Tuple[str, ...] = ()
+    mended: FrozenSet[str] = frozenset()                  # rules whose difference this version does not have
     side: Adapter
 
     @classmethod
@@ -77,7 +76,7 @@ class Beside:
         """It differs, also under all rules but its own, and is explained by a set that has its rule."""
         everything = frozenset(sets()[self.runtime])
         for name, text in cases(self.runtime):
-            if name in NO_RULE:
+            if name in NO_RULE | self.mended:
                 continue
             theirs = self.side.run(text)
             model = Gvr()
@@ -133,6 +132,7 @@ def without_now(event: Dict[str, object]) -> Dict[str, object]:
 
 class BesideAsyncio(Beside, unittest.TestCase):
     runtime = 'asyncio'
+    mended = frozenset({'cancels_count'} if sys.version_info >= (3, 11, 3) else ())
 
 
 if __name__ == '__main__':

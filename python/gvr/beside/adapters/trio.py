@@ -20,7 +20,7 @@ from typing import Any, Awaitable, Callable, Dict, List, Optional, Tuple, Type
 import trio
 from trio._core import _run as run_loop
 
-from .protocol import PLAIN, Fault, G, Unsupported, Value, kind_of, value_text
+from .protocol import PLAIN, G, Unsupported, Value, kind_of, value_text
 from .tasks import MS, VOID, Names, Returned, TaskRun, Tree, serve_runs
 
 EXC: Dict[str, Type[BaseException]] = dict(PLAIN, GreenletExit=trio.Cancelled)

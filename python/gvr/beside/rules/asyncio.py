@@ -77,8 +77,8 @@ class KilledAtEnd(Cancels):
     name = 'killed_at_end'
     says = 'a kill that was not thrown before its target returns makes it end by GreenletExit; the value is lost'
     source = 'asyncio/tasks.py, Task.__step: StopIteration, and _must_cancel'
-    documentation = 'asyncio breaks it. Task.cancelled: "The Task is cancelled when the cancellation was requested with ' \
-                    'cancel() and the wrapped coroutine propagated the CancelledError exception thrown into it"'
+    documentation = 'asyncio breaks it. Task.cancelled: "The Task is cancelled when the cancellation was requested ' \
+                    'with cancel() and the wrapped coroutine propagated the CancelledError exception thrown into it"'
 
     def end(self, g: Greenlet, outcome: Outcome) -> None:
         is_killed = outcome.kind == 'value' and self.own_item(g, 'kill') is not None
@@ -114,8 +114,11 @@ class CancelsCount(Cancels):
     def catches_cancel(self, g: Greenlet, n: int) -> bool:
         return n in self.expired and self.count(g) == 1
 
+    def limit_throws(self, g: Greenlet, wait: Wait) -> bool:
+        return wait.kind in TIMED and self.count(g) > 0
+
     def deliver(self, item: Item) -> None:
-        if item.kind == 'late' and item.parked.kind in TIMED and self.count(item.greenlet):
+        if item.kind == 'late' and self.limit_throws(item.greenlet, item.parked):
             self.thrown(item.greenlet, GREENLET_EXIT)
         else:
             super().deliver(item)
@@ -149,7 +152,7 @@ class Tells(Cancels):
 
 class QueueTells(Tells):
     name = 'queue_tells'
-    says = 'a queue tells who waits and keeps nothing for it: a newcomer may overtake, and who finds nothing waits anew, last'
+    says = 'a queue tells who waits and keeps nothing for it: who comes may overtake, and who finds nothing waits anew'
     source = 'asyncio/queues.py, Queue.get and put: while self.empty(), and _wakeup_next'
 
     def there_is(self, wait: Wait) -> bool:
@@ -248,5 +251,61 @@ class LockNowWaits(Cancels):
         return thing.kind != 'rlock' or since == NEWCOMER
 
 
+class ZeroHops(Cancels):
+    name = 'zero_hops'
+    says = 'a deadline of 0 has a place in the line, and what it throws or tells comes a step behind it'
+    source = 'asyncio/timeouts.py, Timeout.reschedule: call_soon; asyncio/tasks.py, _wait: call_later'
+
+    def __init__(self, *arguments: Any) -> None:
+        super().__init__(*arguments)
+        self.zeros: Set[int] = set()                       # since of those that have not come to their place
+        self.passed: Set[int] = set()                      # since of the lates that have
+
+    def add(self, kind: str, g: Greenlet, *fields: Any, **named: Any) -> Item:
+        item = super().add(kind, g, *fields, **named)
+        if kind in ('late', 'timeout') and item.deadline is not None and item.deadline <= self.now:
+            self.zeros.add(item.since)
+        return item
+
+    def has_come(self, item: Item) -> bool:
+        return item.since not in self.zeros and super().has_come(item)
+
+    def tells(self, item: Item) -> bool:
+        return item.since not in self.zeros and super().tells(item)
+
+    def takes_away(self, item: Item) -> bool:
+        return item.since not in self.zeros and super().takes_away(item)
+
+    def holds(self, item: Item) -> bool:
+        if item.since not in self.zeros:
+            return super().holds(item)
+        is_timer = item.kind == 'late' and item.parked.kind not in TIMED         # else call_soon
+        return item.ready is not None or self.looking or not is_timer
+
+    def deliver(self, item: Item) -> None:
+        late = self.own_item(item.greenlet, 'late')
+        if item.since in self.zeros:
+            self.zeros.discard(item.since)
+            self.passed.add(item.since)
+            item.ready = None
+            self.settle()
+        elif item.kind == 'wake' and self.tells(item) and late is not None and late.since in self.passed \
+                and item.parked.kind in TIMED and self.cancel_of(item.greenlet) is None:
+            self.is_late(item, late)
+        else:
+            super().deliver(item)
+
+    def is_late(self, wake: Item, late: Item) -> None:
+        """One that was told is late: the cancel of its limit came before it ran."""
+        g, wait = wake.greenlet, wake.parked
+        if self.limit_throws(g, wait):
+            self.thrown(g, GREENLET_EXIT)
+            return
+        self.unpark(g)
+        self.say('late g%d' % g.number, g)
+        self.settle()
+        self.run(g, self.late(wait, late.n))
+
+
 RULES: List[type] = [ExtraHop, QueueTells, SemaphoreTells, LockNowWaits, CancelFirst, UnstartedLater, KilledAtEnd,
-                     CancelsCount]
+                     CancelsCount, ZeroHops]

@@ -1,7 +1,7 @@
-"""The rules of runtimes whose tasks are cancelled: what asyncio's (Python 3.11) and trio's (0.22) share; one is Go's too."""
+"""The rules of runtimes whose tasks are cancelled: what asyncio (Python 3.11) and trio (0.22) share; one is Go's too."""
 from typing import Any, Dict, List, Optional, Set
 
-from ...model.items import NEWCOMER, Effect, Ended, Greenlet, Item, Pending, Thing, Wait
+from ...model.items import Effect, Ended, Greenlet, Item, Pending, Thing, Wait
 from ...model.tree import Statement
 from ...model.values import GREENLET_EXIT, VALUE_ERROR, Fault, Outcome, Raised, Value, timeout_fault
 from .rule import Rule
@@ -10,8 +10,8 @@ CANCELS = ('kill', 'timeout')
 
 
 class Cancels(Rule):
-    """Which cancels of a greenlet have come, whether it was told to go on, and how a cancel is thrown. A cancel is a kill
-    or a Timeout."""
+    """Which cancels of a greenlet have come, whether it was told to go on, and how a cancel is thrown. A cancel is a
+    kill or a Timeout."""
 
     def has_come(self, item: Item) -> bool:
         """Whether this is a cancel that has come."""
@@ -29,6 +29,10 @@ class Cancels(Rule):
         """Whether a cancel that comes now is thrown at the wait of this greenlet."""
         is_told = any(item.ready is not None and self.tells(item) for item in g.own.values())
         return not is_told and self.own_item(g, 'wake') is not None
+
+    def takes_away(self, item: Item) -> bool:
+        """Whether an item, which is in the line, takes its greenlet away from what it waits for."""
+        return item.kind in ('kill', 'timeout', 'late') and item.ready is not None
 
     def is_leaving(self, g: Greenlet) -> bool:
         """Whether a greenlet that waits stands no more in the line of those that do."""
@@ -54,6 +58,10 @@ class Cancels(Rule):
         """A cancel was thrown, and comes no more."""
         self.remove(cancel)
 
+    def limit_throws(self, g: Greenlet, wait: Wait) -> bool:
+        """Whether a wait of this greenlet that is late throws a cancel."""
+        return False
+
     def under_way(self, g: Greenlet) -> Set[int]:
         """What has come to one that a cancel leaves a block of: the numbers of Timeouts; a kill is 0."""
         return set()
@@ -62,8 +70,8 @@ class Cancels(Rule):
 class TimeoutIsCancel(Cancels):
     name = 'timeout_is_cancel'
     says = 'a timeout is thrown as a cancel, and becomes a Timeout where its block ends'
-    source = 'asyncio/timeouts.py, Timeout._on_timeout and __aexit__; trio/_timeouts.py, fail_at; trio/_core/_run.py, ' \
-             'CancelScope._close'
+    source = 'asyncio/timeouts.py, Timeout._on_timeout and __aexit__; trio/_timeouts.py, fail_at; ' \
+             'trio/_core/_run.py, CancelScope._close'
 
     def __init__(self, *arguments: Any) -> None:
         super().__init__(*arguments)
@@ -101,8 +109,8 @@ class TimeoutIsCancel(Cancels):
 class CancelsMerge(Cancels):
     name = 'cancels_merge'
     says = 'kills and timeouts of one moment are one throw; it counts as the outermost of them'
-    source = 'asyncio/tasks.py, Task.cancel and uncancel; asyncio/timeouts.py, Timeout.__aexit__; trio/_core/_run.py, ' \
-             'CancelScope._close: parent_cancellation_is_visible_to_us'
+    source = 'asyncio/tasks.py, Task.cancel and uncancel; asyncio/timeouts.py, Timeout.__aexit__; ' \
+             'trio/_core/_run.py, CancelScope._close: parent_cancellation_is_visible_to_us'
 
     def __init__(self, *arguments: Any) -> None:
         super().__init__(*arguments)
@@ -110,7 +118,7 @@ class CancelsMerge(Cancels):
 
     def holds(self, item: Item) -> bool:
         if item.kind in CANCELS and item.ready is None and \
-                any(other.kind in CANCELS and other.ready is not None for other in item.greenlet.own.values()):
+                any(other.kind in CANCELS and self.takes_away(other) for other in item.greenlet.own.values()):
             return False
         return super().holds(item)
 
@@ -133,7 +141,7 @@ class CancelsMerge(Cancels):
 
 class CancelWaits(Cancels):
     name = 'cancel_waits'
-    says = 'a kill or a timeout of one that runs, or was told to go on, is thrown at its next wait, behind all that are ready'
+    says = 'a kill or a timeout of one that runs, or was told to go on, is thrown at its next wait, behind the ready'
     source = 'asyncio/tasks.py, Task.cancel and __step: _must_cancel; trio/_core/_run.py, ' \
              'Task._attempt_delivery_of_any_pending_cancel: _abort_func'
 
@@ -150,7 +158,7 @@ class LeavesAtOnce(Cancels):
              'out; trio/_core/_parking_lot.py, park: abort_fn; runtime/chan.go of Go, waitq.dequeue: selectDone'
 
     def is_leaving(self, g: Greenlet) -> bool:
-        return any(item.kind in ('kill', 'timeout', 'late') and item.ready is not None for item in g.own.values())
+        return any(self.takes_away(item) for item in g.own.values())
 
     def holds(self, item: Item) -> bool:
         if item.kind == 'wake' and item.ready is None and self.is_leaving(item.greenlet):
@@ -167,7 +175,8 @@ class LeavesAtOnce(Cancels):
             return count
         return count - sum(1 for item in self.items.values()
                            if item.since < since and item.kind == 'wake' and item.ready is None
-                           and item.parked.object is thing and item.parked.takes == what and self.is_leaving(item.greenlet))
+                           and item.parked.object is thing and item.parked.takes == what
+                           and self.is_leaving(item.greenlet))
 
 
 class HandedAtRelease(Rule):

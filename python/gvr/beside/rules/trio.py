@@ -5,14 +5,13 @@ from ...model.items import NEWCOMER, Effect, Greenlet, Item, Thing, Wait
 from ...model.tree import Statement
 from ...model.values import NOTHING, Fault, G, Handle, Outcome, Value
 from .cancels import CANCELS, Cancels
-from .rule import Rule
 
 JOINS = ('joinall', 'killall')
 
 
 class Steps(Cancels):
-    """What the rules on checkpoints share: who waits only to let the others run. A cancel that comes then is thrown there
-    (`open`), or at the next wait (`shielded`)."""
+    """What the rules on checkpoints share: who waits only to let the others run. A cancel that comes then is thrown
+    there (`open`), or at the next wait (`shielded`)."""
 
     def __init__(self, *arguments: Any) -> None:
         super().__init__(*arguments)
@@ -45,8 +44,8 @@ class Checkpoints(Steps):
     name = 'checkpoints'
     says = 'an operation that need not wait has its effect at once, and then lets all others run that can'
     source = 'trio/_sync.py, Semaphore.acquire, Lock.acquire and Event.wait; trio/_channel.py, send and receive'
-    documentation = 'if you call an async function provided by Trio, and it doesn\'t raise an exception, then it always ' \
-                    'acts as a checkpoint'
+    documentation = 'if you call an async function provided by Trio, and it doesn\'t raise an exception, then it ' \
+                    'always acts as a checkpoint'
 
     def wait_for(self, g: Greenlet, st: Statement, wait: Wait) -> Effect:
         is_empty = wait.kind in JOINS and not wait.targets
@@ -151,9 +150,6 @@ class JoinsInTurn(Steps):
         super().__init__(*arguments)
         self.turn_of: Dict[int, int] = {}                  # since of one that joins several: at which it is
 
-    def joins_several(self, item: Item) -> bool:
-        return item.since in self.turn_of
-
     def wait_for(self, g: Greenlet, st: Statement, wait: Wait) -> Effect:
         if st.now or wait.kind not in JOINS or len(wait.targets) < 2:
             return super().wait_for(g, st, wait)
@@ -212,4 +208,39 @@ class StepFirst(Steps):
             self.settle()
 
 
-RULES: List[type] = [Checkpoints, CancelStays, KillBeatsDeadline, HandedInQueues, JoinsInTurn, StepFirst]
+class ZeroIsLate(Steps):
+    name = 'zero_is_late'
+    says = 'a wait within 0 is late also if it need not wait, two steps later'
+    source = 'trio/_core/_run.py, CancelScope.__enter__: a deadline that has come cancels, and checkpoint'
+
+    def __init__(self, *arguments: Any) -> None:
+        super().__init__(*arguments)
+        self.late_ones: Dict[int, Wait] = {}               # since of those that are late, and what they waited for
+
+    def need_not_wait(self, g: Greenlet, wait: Wait) -> bool:
+        if wait.kind in JOINS:
+            return len(wait.targets) > 0 and self.ended(wait.targets[0])
+        return bool(wait.takes) or self.goes_on_at_once(g, wait)
+
+    def wait_for(self, g: Greenlet, st: Statement, wait: Wait) -> Effect:
+        if st.within != 0 or not self.need_not_wait(g, wait):
+            return super().wait_for(g, st, wait)
+        if wait.kind == 'joinall':
+            self.ended_before.append((wait, [whom for whom in wait.targets if self.ended(whom)]))
+        self.late_ones[self.next_since] = wait
+        self.open.add(self.next_since)
+        return self.park(g, Wait('sleep', into=wait.into), 0, sleeps=True)
+
+    def deliver(self, item: Item) -> None:
+        if item.kind != 'wake' or item.since not in self.late_ones:
+            super().deliver(item)
+        elif item.since in self.open:
+            self.open.discard(item.since)
+            item.ready = None
+            self.settle()
+        else:
+            self.given[item.since] = self.late(self.late_ones.pop(item.since), None)
+            super().deliver(item)
+
+
+RULES: List[type] = [Checkpoints, CancelStays, KillBeatsDeadline, HandedInQueues, JoinsInTurn, ZeroIsLate, StepFirst]
