@@ -34,7 +34,6 @@ enum Gone {
 }
 
 /// Writes what the stream takes of what is left of two pieces.
-#[tactic(auto, using(stream_dial::proofs::Dialling::open_written))]
 fn send<D: Dial>(dial: &mut D, slot: usize, first: &[u8], second: &[u8], sent: &mut usize) -> Gone
     requires opened { IsOpen (D.meaning dial.old) slot }
     ensures { IsOpen (D.meaning dial.new) slot }
@@ -57,7 +56,6 @@ fn send<D: Dial>(dial: &mut D, slot: usize, first: &[u8], second: &[u8], sent: &
 }
 
 /// Appends what came.
-#[tactic(auto, using(stream_dial::proofs::Dialling::open_read))]
 fn receive<D: Dial>(dial: &mut D, slot: usize, got: &mut Vec<u8>) -> Result<Gone, AllocError>
     requires opened { IsOpen (D.meaning dial.old) slot }
     ensures { IsOpen (D.meaning dial.new) slot }
