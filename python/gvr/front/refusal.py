@@ -3,11 +3,11 @@ import re
 from typing import List, Optional, Sequence
 
 from gvr.model import Refusal, refusals
-from gvr.model.syntax import WORDS
+from gvr.model.syntax import MOST_LONG_TEXT, MOST_TEXT, WORDS
 
 from .advice import ONE_WORD, RESERVED_ROW, VALUES, advice
 from .explain import reasons
-from .files import MOST_TEXT, nth_line
+from .files import nth_line
 from .usage import nearest
 
 # How many refusals of one text are shown, and how wide a line is shown.
@@ -55,8 +55,8 @@ def other_kind(text: bytes, refusal: Refusal) -> str:
 
 def wanted_there(text: bytes, refusal: Refusal) -> str:
     """What was wanted at the caret."""
-    if refusal.reason == 1:
-        return f"wanted: at most {MOST_TEXT} bytes in all"
+    if refusal.reason in (1, 26):
+        return f"wanted: at most {MOST_TEXT if refusal.reason == 1 else MOST_LONG_TEXT} bytes in all"
     if refusal.reason == 2:
         return OF_BYTES.get(byte_at(text, refusal), "a byte that is not printable ASCII")
     return f"wanted: {refusal.wanted}" if refusal.wanted else ""

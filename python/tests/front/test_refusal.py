@@ -70,7 +70,8 @@ class Reasons(unittest.TestCase):
     """Each text of the table of reasons: its line, the word under the caret, and what is wanted or meant there."""
 
     WORDS = {1: "#", 2: "?print", 3: "", 4: "", 5: "foo", 6: "", 7: "2", 8: "n", 9: "1000000001", 10: "Q", 11: "end", 12: "print",
-             13: "event", 14: "end", 15: "x", 16: "e", 17: "e", 18: "w", 19: "sleep", 20: "timeout", 21: "true", 22: "e256"}
+             13: "event", 14: "end", 15: "x", 16: "e", 17: "e", 18: "w", 19: "sleep", 20: "timeout", 21: "true", 22: "e256",
+             26: "#"}
 
     def test_each_shows_its_word_and_what_is_wanted(self) -> None:
         rows = explain.table("Reason | Line")

@@ -108,11 +108,11 @@ class Said(unittest.TestCase):
             text = 'import gevent\ng = gevent.spawn(print, 1)\ng.join()\nraise SystemExit(4)\n'
             status, out, said = self.program(text, '--tick', '1', GVR=program)
             self.assertEqual((status, out, said[-1]), (4, '1\n', 'certified by the proved program'))
-            many = 'from gevent.event import Event\n' + 'many = [Event() for _ in range(257)]\n'
+            many = 'from gevent.event import Event\n' + 'many = [Event() for _ in range(20001)]\n'
             status, out, said = self.program(many, GVR=program)
         self.assertEqual((status, len(said)), (0, 1))
         self.assertTrue(said[0].startswith('not certified: the record is past a limit of the language: '), said)
-        self.assertIn('line 257 of it: event many_257, at program.py:2 in ', said[0])
+        self.assertIn('line 20002 of it: event many_20001, at program.py:2 in ', said[0])
 
     def test_without_greenlet(self) -> None:
         with tempfile.TemporaryDirectory() as folder:

@@ -63,7 +63,7 @@ class Changes(unittest.TestCase):
 
     def test_entries_of_the_reasons(self) -> None:
         entries = make_page.explain()
-        self.assertEqual(sorted(entries), list(range(1, 23)))
+        self.assertEqual(sorted(entries), [*range(1, 23), 26])
         self.assertEqual(entries[6]["parts"][1:], [["refused", "def main\nprint\nend\n"], ["mended", "def main\nprint 1\nend\n"]])
         self.assertEqual([kind for kind, _ in entries[1]["parts"]], ["text"])
 
