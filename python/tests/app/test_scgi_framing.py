@@ -1,5 +1,5 @@
-"""What applications do that break their own framing, and what the other side gets: the rows of the table in
-docs/BEHIND.md, in its order. python3 test_scgi_framing.py"""
+"""What applications do that break their own framing, and what the other side gets, and a client of nginx: the rows of
+the table in docs/BEHIND.md, in its order. python3 test_scgi_framing.py"""
 import os
 import sys
 import unittest
