@@ -20,7 +20,7 @@ _gvr() {
     json) options="--turns --moves --tick --native --order" ;;
     storm) options="--size" ;;
     wsgi) options="--gateway" ;;
-    serve) options="--port --conns --pool --idle --jobs --gateway" ;;
+    serve) options="--port --conns --pool --idle --jobs --pass --patience --gateway" ;;
   esac
   case $word in
     -*) COMPREPLY=($(compgen -W "$options --help" -- "$word")) ;;

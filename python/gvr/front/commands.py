@@ -44,6 +44,12 @@ OPTIONS: Dict[str, Option] = {it.name: it for it in (
     Option("--jobs", "N", "threads that do the jobs of requests",
            "Threads that do the jobs for which requests ask: 1 to 16; no threads and no jobs if it is left out. Not "
            "beside --gateway scgi."),
+    Option("--pass", "N", "the port of an application server",
+           "The port of 127.0.0.1 at which an SCGI server, as `gvr app`, answers the requests: 1 to 65535. Not beside "
+           "--jobs or --gateway scgi."),
+    Option("--patience", "N", "milliseconds for a reply",
+           "The milliseconds within which a reply to what was passed has to be whole: 1 to 3600000; 60000 if it is left "
+           "out. Only with --pass."),
     Option("--gateway", "http|scgi", "what a connection speaks", "What a connection speaks; http if it is left out."),
     Option("--sources", "", "compile the sources, some minutes",
            "The sources answer as they stand, after some minutes of compiling, also if a program is built or the model "
@@ -87,17 +93,17 @@ COMMANDS: Tuple[Command, ...] = (
             "that run.", ("--size",), True, False),
     Command("wsgi", ("[--gateway http|scgi]",), "answer the connection of the standard input",
             "Answers the requests of one connection, which it reads from the standard input.", ("--gateway",), True, False),
-    Command("serve", ("--port N --conns N [--pool N] [--idle N] [--jobs N] [--gateway http|scgi]",),
+    Command("serve", ("--port N --conns N [--pool N] [--idle N] [--jobs N] [--pass N [--patience N]] [--gateway http|scgi]",),
             "answer connections over 127.0.0.1",
             "Listens on 127.0.0.1, writes `listening PORT`, answers so many connections, and writes `served N`.",
-            ("--port", "--conns", "--pool", "--idle", "--jobs", "--gateway"), True, False),
+            ("--port", "--conns", "--pool", "--idle", "--jobs", "--pass", "--patience", "--gateway"), True, False),
     Command("live", ("[OPTIONS] PROGRAM.py [ARGUMENT..]",), "run a Python program written for gevent",
             "Runs a Python program with gvr deciding every order; docs/LIVE.md tells more, and `live --help`."),
     Command("beside", ("[OPTIONS] FILE", "check FILE..", "hunt --from A --to B"), "run a scenario beside another runtime",
             "Runs a scenario by gvr and by another runtime, gevent first, and tells the first difference; docs/BESIDE.md "
             "tells more, and `beside --help`."),
     Command("app", ("[OPTIONS] MODULE:CALLABLE",), "serve a WSGI application over SCGI",
-            "Serves a WSGI application of yours over SCGI; docs/BEHIND.md tells more, and `app --help`."),
+            "Serves a WSGI application of yours over SCGI, for `serve --pass`; docs/BEHIND.md tells more, and `app --help`."),
 )
 BY_NAME: Dict[str, Command] = {it.name: it for it in COMMANDS}
 # The groups of `gvr --help`.
