@@ -5,6 +5,7 @@ import os
 import pathlib
 import statistics
 import tempfile
+import time
 from typing import Callable, NamedTuple, Optional
 
 from servers import Findings, Loaded, Running, load
@@ -12,7 +13,6 @@ from servers import Findings, Loaded, Running, load
 from relay import behind
 from relay.asking import connect, request
 from relay.fronts import Front
-from relay.scripted import STAYS, Scripted, script
 
 MEASURED = "measured_app:application"
 # How many threads the servers have, and how many connections ask.
@@ -152,22 +152,30 @@ def without_a_front(measure: Measure) -> None:
 
 
 def beside_held(front: Front, measure: Measure, findings: Findings) -> None:
-    """The latest answers to 64 connections, alone and beside many that are held."""
-    row = Row("hello", "/quick")
-    reply = b"Status: 200 OK\r\nContent-Length: 6\r\n\r\nhello\n"
-    with Scripted({"/held": script(ends=STAYS), "/quick": script(reply)}) as server, front(server.port, 600000) as it:
-        alone = middle([measure.once(row, 64, it, None) for _ in range(measure.rounds)])
-        streams = [connect(it.port) for _ in range(HELD)]
+    """The latest answers to 64 connections, of a front alone and of one that holds many, by turns."""
+    row = Row("hello", "/")
+    with behind.keeper() as server, front(server.port, 600000) as alone, front(server.port, 600000) as holding:
+        before = server.sockets()
+        streams = [connect(holding.port) for _ in range(HELD)]
         for stream in streams:
             stream.send(request(path="/held"))
-        server.wait_for("/held", HELD)
-        beside = middle([measure.once(row, 64, it, None) for _ in range(measure.rounds)])
+        held = wait_for_sockets(server, before + HELD) - before
+        rounds = [[measure.once(row, 64, it, None) for it in (holding, alone)] for _ in range(measure.rounds)]
         for stream in streams:
             stream.close()
-    ratio = beside.loaded.late / max(0.001, alone.loaded.late)
-    seen = f"p99 {beside.loaded.late:.2f} ms, {alone.loaded.late:.2f} without them"
-    print(f"       the front takes {beside.front:.0f} us an answer, {alone.front:.0f} without them")
-    findings.tell(f"64 connections beside {HELD} that are held", seen, ratio <= LATER)
+    mine, other = (middle(list(all_of)) for all_of in zip(*rounds))
+    ratio = mine.loaded.late / max(0.001, other.loaded.late)
+    seen = f"p99 {mine.loaded.late:.2f} ms, {other.loaded.late:.2f} without them"
+    print(f"       the front takes {mine.front:.0f} us an answer, {other.front:.0f} without them")
+    findings.tell(f"64 connections beside {held} that are held", seen, held == HELD and ratio <= LATER)
+
+
+def wait_for_sockets(server: Running, wanted: int, seconds: float = 20) -> int:
+    """How many sockets it has open, once these are so many or the time is over."""
+    until = time.monotonic() + seconds
+    while (now := server.sockets()) < wanted and time.monotonic() < until:
+        time.sleep(0.05)
+    return now
 
 
 def run(fronts: dict[str, Front], is_short: bool, findings: Findings) -> None:
