@@ -33,7 +33,7 @@ class WebKit(Actions):
         self.told: List[Dict[str, Any]] = []
         self.session = ""
         with open(f"{self.room}/log", "wb") as log:
-            how = {"stdin": subprocess.DEVNULL, "stdout": log, "stderr": log}
+            how: Dict[str, Any] = {"stdin": subprocess.DEVNULL, "stdout": log, "stderr": log}
             shown, number = os.pipe()
             words = [shutil.which("Xvfb") or "Xvfb", "-displayfd", str(number), "-screen", "0", "1600x1200x24", "-nolisten", "tcp"]
             self.screen = subprocess.Popen(words, pass_fds=(number,), **how)
