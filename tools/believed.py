@@ -30,10 +30,16 @@ class Unread(Exception):
     """A name that leads to nothing that is there."""
 
 
+@functools.lru_cache(maxsize=None)
+def word(name):
+    """A search for the name as a word of its own; re itself keeps too few."""
+    return re.compile(rf"(?<![\w.-]){re.escape(name)}(?![\w-])")
+
+
 def mentions(text, name):
     if "◌" in name:
         return all(part in text for part in name.split("◌"))
-    return name in text and re.search(rf"(?<![\w.-]){re.escape(name)}(?![\w-])", text) is not None
+    return name in text and word(name).search(text) is not None
 
 
 def plain(text):
@@ -100,14 +106,15 @@ def imported(imports, text):
     found = set()
     for crate, folder, path, names, alias in imports_in(imports):
         for name in names_of(text, names, alias):
-            found.add(item_of(crate, folder, path.split(".")[1:], name))
+            found.add(item_of(crate, folder, tuple(path.split(".")[1:]), name))
     return found - {None}
 
 
+@functools.lru_cache(maxsize=None)
 def item_of(crate, folder, path, name):
     if not (CRATES / crate).is_dir():
         return Item("kit", pathlib.Path(crate, folder, *path), name)
-    if path[:1] == ["declared"]:
+    if path[:1] == ("declared",):
         return code_item(crate, path[1:], name)
     if folder != "specs":
         return None

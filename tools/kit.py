@@ -10,7 +10,7 @@ import sys
 import crates
 
 ROOT = pathlib.Path(__file__).resolve().parent.parent
-KIT = pathlib.Path(os.path.realpath(shutil.which("rt") or sys.exit("there is no rt, the command of the kit"))).parent.parent
+KIT = pathlib.Path(os.path.realpath(shutil.which("rt") or sys.exit("gvr: rt, the command of the Rattle kit, is not on the path"))).parent.parent
 PLACE = ROOT / "crates/gvr/out/libraries"
 
 

@@ -1,7 +1,7 @@
 """The tests of the packages in python/, file by file, and mypy over them; ./test and tools/check_python run them.
 
-Each file is run by itself with tools/python, by an interpreter that has gevent, or greenlet, where there is one. What is
-left out, since a module or a program is missing, is told with why."""
+Each file is run by itself, as tools/python would run it, by an interpreter that has gevent, or greenlet, where there is
+one. What is left out, since a module or a program is missing, is told with why."""
 import json
 import os
 import pathlib
@@ -13,8 +13,8 @@ from typing import Any, Dict, List, NamedTuple, Tuple
 TOP = pathlib.Path(__file__).resolve().parent.parent
 PYTHON = TOP / "tools/python"
 TESTS = TOP / "python/tests"
-# A test file may take so many seconds.
-LONGEST = 600
+# A test file may take so many seconds; how long it took is told of those that take more than a few.
+LONGEST, LONG = 600, 10
 # Runs the tests of a file, and writes what came of them as its last line.
 RUNNER = """
 import importlib.util, json, os, sys, unittest
@@ -43,7 +43,8 @@ print("\\n" + json.dumps({"passed": max(0, came.testsRun - len(bad) - len(skippe
 """
 OURS = {"gvr", "gvr_scgi"}
 # The files that take longest are run in so many parts, side by side; they come first, so that none is left at the end.
-PARTS = {"test_scgi_servers.py": 4, "test_tools.py": 3, "test_gvr.py": 3, "test_examples.py": 2, "test_told.py": 2}
+PARTS = {"test_scgi_servers.py": 4, "test_tools.py": 3, "test_gvr.py": 3, "test_examples.py": 2, "test_told.py": 2,
+         "test_times.py": 2}
 
 
 class Came(NamedTuple):
@@ -69,16 +70,27 @@ def told(*lines: str) -> str:
     return "".join(f"check_python: {line}\n" for line in lines)
 
 
-def has(module: str) -> bool:
-    """Whether some interpreter has this module."""
-    return subprocess.run([PYTHON, "--with", module, "-c", f"import {module}"], capture_output=True).returncode == 0
+def interpreter(module: str) -> str:
+    """The interpreter that tools/python takes for this module; nothing if none has it."""
+    script = f"import sys, {module}; print(sys.executable)"
+    ended = subprocess.run([PYTHON, "--with", module, "-c", script], stdout=subprocess.PIPE, stderr=subprocess.DEVNULL, text=True)
+    return ended.stdout.strip()
 
 
-def wanted_module() -> Tuple[str, str]:
-    """The module by which an interpreter is chosen, and what is said if it isn't gevent."""
-    wanted = next((module for module in ("gevent", "greenlet") if has(module)), "sys")
-    lacks = "gevent" if wanted == "greenlet" else "gevent or greenlet"
-    return wanted, "" if wanted == "gevent" else told(f"no interpreter has {lacks}")
+def chosen() -> Tuple[str, str]:
+    """The interpreter for the tests, with the packages' bytecode made, and what is said if it has no gevent."""
+    found = {module: interpreter(module) for module in ("gevent", "greenlet", "sys")}
+    python = found["gevent"] or found["greenlet"] or found["sys"]
+    # Else each of some hundred starts would compile them, where the environment has Python keep none.
+    subprocess.run([python, "-m", "compileall", "-q", TOP / "python"], stdout=subprocess.DEVNULL)
+    lacks = "gevent" if found["greenlet"] else "gevent or greenlet"
+    return python, "" if found["gevent"] else told(f"no interpreter has {lacks}")
+
+
+def environment() -> Dict[str, str]:
+    """That in which tools/python runs."""
+    before = os.environ.get("PYTHONPATH", "")
+    return {**os.environ, "PYTHONPATH": f"{TOP / 'python'}{os.pathsep * bool(before)}{before}"}
 
 
 def all_tests(no_network: bool) -> Tuple[List[Some], str]:
@@ -92,12 +104,12 @@ def all_tests(no_network: bool) -> Tuple[List[Some], str]:
     return [Some(file, f"{it}/{count}" if count > 1 else "") for file, count in parts for it in range(count)], said
 
 
-def run(some: Some, wanted: str) -> Came:
-    """Runs these tests."""
+def run(some: Some, python: str) -> Came:
+    """Runs these tests by this interpreter."""
     began = time.time()
-    command = [PYTHON, "--with", wanted, "-c", RUNNER, some.file, *([some.part] if some.part else [])]
+    command = [python, "-c", RUNNER, some.file, *([some.part] if some.part else [])]
     try:
-        came = subprocess.run(command, stdin=subprocess.DEVNULL, capture_output=True, text=True, timeout=LONGEST, cwd=TOP)
+        came = subprocess.run(command, stdin=subprocess.DEVNULL, capture_output=True, text=True, timeout=LONGEST, cwd=TOP, env=environment())
     except subprocess.TimeoutExpired:
         return Came(told(f"{some.name()}: no answer in {LONGEST} s"), 0, 1)
     last = came.stdout.rstrip("\n").rpartition("\n")[2]
@@ -105,7 +117,7 @@ def run(some: Some, wanted: str) -> Came:
         return Came(came.stderr[-4000:] + told(f"{some.name()} ended with status {came.returncode}"), 0, 1)
     answer = report(some.name(), json.loads(last), came.stderr)
     took = time.time() - began
-    return answer._replace(said=answer.said + (told(f"{some.name()} took {took:.0f} s") if took > 60 else ""))
+    return answer._replace(said=answer.said + (told(f"{some.name()} took {took:.0f} s") if took > LONG else ""))
 
 
 def report(name: str, came: Dict[str, Any], said: str) -> Came:
@@ -122,10 +134,11 @@ def report(name: str, came: Dict[str, Any], said: str) -> Came:
 
 def check_types() -> Came:
     """Runs mypy; how many modules passed, and how many lines of it tell of something wrong."""
-    if not has("mypy"):
+    python = interpreter("mypy")
+    if not python:
         return Came(told("mypy is left out, since it is not installed"), 0, 0)
     packages = [word for name in sorted(OURS) if (TOP / "python" / name).is_dir() for word in ("-p", name)]
-    came = subprocess.run([PYTHON, "--with", "mypy", "-m", "mypy", "--strict", *packages], cwd=TOP / "python", capture_output=True,
+    came = subprocess.run([python, "-m", "mypy", "--strict", *packages], cwd=TOP / "python", capture_output=True,
                           text=True, env={**os.environ, "MYPYPATH": str(TOP / "python")})
     wrong = re.findall(r"^.*: error: .*$", came.stdout, re.M)
     if came.returncode and not wrong:

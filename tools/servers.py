@@ -119,8 +119,12 @@ class Running:
 
     def sockets(self) -> int:
         """How many sockets it has open, the listener among them."""
-        links = pathlib.Path(f"/proc/{self.process.pid}/fd").iterdir()
-        return sum(os.readlink(link).startswith("socket:") for link in links)
+        count = 0
+        for link in pathlib.Path(f"/proc/{self.process.pid}/fd").iterdir():
+            # One that was closed meanwhile is none.
+            with contextlib.suppress(FileNotFoundError):
+                count += os.readlink(link).startswith("socket:")
+        return count
 
     def descriptors(self) -> int:
         """How many descriptors its processes have open."""

@@ -12,6 +12,8 @@ import time
 class Browser:
     """A browser with one page. It is asked by the DevTools protocol: JSON, ended by NUL, over two pipes."""
 
+    NEEDS = "sh"
+
     def __init__(self, program):
         self.room = tempfile.mkdtemp(prefix="gvr-browser-")
         asked, self.asks = os.pipe()

@@ -90,8 +90,10 @@ function onTab(isBack) {
 /** The keys of the field; what is none of them goes on. */
 function onTextKey(event) {
   const isPlain = !event.ctrlKey && !event.metaKey && !event.altKey;
+  // WebKit on Linux has no name for Tab with Shift.
+  const isTab = event.key === "Tab" || event.code === "Tab";
   if (event.key === "Escape") leaves = true;
-  else if (event.key === "Tab" && isPlain && !leaves) {
+  else if (isTab && isPlain && !leaves) {
     onTab(event.shiftKey);
     event.preventDefault();
   } else if (event.key === "Enter" && isPlain && !event.shiftKey) {

@@ -12,8 +12,7 @@ import tempfile
 import time
 from typing import Any, Dict, List
 
-KEYS = {"Enter": "\ue007", "Escape": "\ue00c", "Tab": "\ue004", "ArrowDown": "\ue015"}
-MODIFIERS = {1: "\ue00a", 2: "\ue009", 8: "\ue008"}
+from actions import Actions
 
 
 class Socket:
@@ -72,8 +71,10 @@ class Socket:
                     return whole.decode()
 
 
-class Firefox:
+class Firefox(Actions):
     """A browser with one page."""
+
+    NEEDS = "sh"
 
     def __init__(self, program: str) -> None:
         self.room = tempfile.mkdtemp(prefix="gvr-firefox-")
@@ -143,17 +144,6 @@ class Firefox:
 
     def perform(self, **given: Any) -> None:
         self.ask("input.performActions", context=self.context, actions=[{"id": given["type"], **given}])
-
-    def press(self, key: str, _code: str, _number: int, modifiers: int = 0) -> None:
-        """Presses a key with modifiers: 1 is Alt, 2 Ctrl, 8 Shift."""
-        held = [it for bit, it in MODIFIERS.items() if modifiers & bit]
-        down = [{"type": "keyDown", "value": it} for it in [*held, KEYS.get(key, key)]]
-        self.perform(type="key", actions=down + [{"type": "keyUp", "value": it["value"]} for it in reversed(down)])
-
-    def click(self, x: float, y: float) -> None:
-        moved = {"type": "pointerMove", "x": round(x), "y": round(y)}
-        presses = [{"type": "pointerDown", "button": 0}, {"type": "pointerUp", "button": 0}]
-        self.perform(type="pointer", actions=[moved, *presses])
 
     def faults(self) -> List[Any]:
         """What went wrong in the page."""

@@ -4,8 +4,10 @@ let module;
 
 const bytesOf = async (base64) => {
   const packed = Uint8Array.from(atob(base64), (it) => it.charCodeAt(0));
-  const stream = new Blob([packed]).stream().pipeThrough(new DecompressionStream("gzip"));
-  return new Uint8Array(await new Response(stream).arrayBuffer());
+  const stream = new DecompressionStream("gzip"), writer = stream.writable.getWriter();
+  // Not by a Blob: in WebKit the worker of a page that is a file can't read one.
+  writer.write(packed).then(() => writer.close()).catch(() => {});
+  return new Uint8Array(await new Response(stream.readable).arrayBuffer());
 };
 
 /** The proved call, in a memory of its own. The words, the text, two lengths, err and out lie behind one another. */

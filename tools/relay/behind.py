@@ -3,6 +3,7 @@ import contextlib
 import os
 import pathlib
 import shutil
+import sys
 from typing import Callable
 
 from servers import TOP, Running, free_port, python_with, running
@@ -78,6 +79,12 @@ def pywsgi(name: str, folder: pathlib.Path, threads: int = 16, module: str = "sy
     port = free_port()
     words = [python_with("gevent") or "python3", "-c", PYWSGI, str(port), name]
     return running(words, port, environ(folder))
+
+
+def keeper() -> Served:
+    """An SCGI server that answers `hello` at once, but for /held."""
+    port = free_port()
+    return running([sys.executable, str(HERE / "keeper.py"), str(port)], port)
 
 
 def over_scgi() -> dict[str, Behind]:

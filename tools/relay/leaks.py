@@ -15,7 +15,9 @@ from relay.upset import wait_for_descriptors
 
 # How many requests are looked at, and after how many seconds fewer have to do.
 WANTED, LONGEST = 200000, 150
-FEW = 10000
+SHORT, BRIEF = 20000, 20
+# For how many seconds is asked before that: what the front needs once is there then, and the rate is known.
+FIRST = 8
 # How many requests the rest is reckoned for, and what they may leave behind, in KiB.
 MANY, MOST = 10000000, 65536
 # How many connections ask.
@@ -34,45 +36,44 @@ end
 """
 
 
-def go_away(port: int, until: threading.Event, times: list[int]) -> None:
+def go_away(port: int, until: threading.Event) -> None:
     """Asks, and goes away without its answer, some times a second."""
-    while not until.wait(0.05):
+    while not until.wait(0.2):
         with socket.create_connection(("127.0.0.1", port)) as stream:
             stream.sendall(request(path="/whole"))
-        times[0] += 1
 
 
-def ask_all(it: Running, requests: int, lua: pathlib.Path) -> tuple[int, float]:
-    """Asks so often, or as often as goes in the longest time; how often, and how many seconds it took."""
-    began, done = time.monotonic(), 0
-    until, times = threading.Event(), [0]
-    other = threading.Thread(target=go_away, args=(it.port, until, times))
+def ask_for(it: Running, seconds: float, lua: pathlib.Path) -> int:
+    """Asks over the same connections for so long; how many answers came. Each connection costs an account of its own
+    (docs/SERVE.md, "What it costs"), so there are few."""
+    until = threading.Event()
+    other = threading.Thread(target=go_away, args=(it.port, until))
     other.start()
-    while done < requests and time.monotonic() - began < LONGEST:
-        done += load(it.port, CONNS, 2, "/", lua).answers
+    answers = load(it.port, CONNS, seconds, "/", lua).answers
     until.set()
     other.join()
-    return done + times[0], time.monotonic() - began
+    return answers
 
 
 def run(front: Front, is_short: bool, findings: Findings) -> None:
     """Asks for long, and compares what the front holds before and behind that."""
-    wanted = FEW * 2 if is_short else WANTED
+    wanted, longest = (SHORT, BRIEF) if is_short else (WANTED, LONGEST)
     with tempfile.TemporaryDirectory() as place, behind.app("scgi_faulty:application", behind.TESTED) as server, \
             front(server.port, 20000) as it:
         lua = pathlib.Path(place) / "load.lua"
         lua.write_text(LUA)
-        ask_all(it, FEW, lua)
+        first = ask_for(it, FIRST, lua)
         # Connections that closed linger for a second.
         time.sleep(2)
         before, held = it.descriptors(), it.memory()
-        count, took = ask_all(it, wanted, lua)
+        seconds = min(longest, 1 + wanted * FIRST // max(1, first))
+        count = ask_for(it, seconds, lua)
         after = wait_for_descriptors(it, before)
         more = it.memory() - held
         is_well = status_of(it.port) == 200
-    reckoned = more * MANY / count
-    less = "" if count >= wanted else f", in place of {wanted}, which this machine does not do in {LONGEST} s"
-    print(f"       {count} requests in {took:.0f} s{less}")
+    reckoned = more * MANY / max(1, count)
+    less = f"; {wanted} would take more than {longest} s" if seconds == longest else ""
+    print(f"       {count} requests in {seconds} s{less}")
     findings.tell("descriptors that they leave behind", f"{after - before} of {before}", after == before and is_well)
     seen = f"{more} KiB more than {held}; of {MANY} requests {reckoned / 1024:.0f} MiB"
     findings.tell("memory that they leave behind", seen, reckoned <= MOST)

@@ -77,7 +77,7 @@ LATE = [
     Row("states no length, and stays", script(OPEN, ends=STAYS), TIMEOUT, "200, cut off"),
     Row("is slower than the limit", script(2.5, WHOLE), TIMEOUT, "504, kept"),
     Row("says a byte each 100 ms, 6 seconds long", script(*slowly(WHOLE, 0.1)), TIMEOUT, "504, kept"),
-    Row("says a byte each 10 ms, and is done in time", script(*slowly(WHOLE, 0.01)), AB, "200, kept"),
+    Row("says a byte each 5 ms, and is done in time", script(*slowly(WHOLE, 0.005)), AB, "200, kept"),
     Row("says its whole, and stays", script(WHOLE, ends=STAYS), AB, "200, kept"),
 ]
 NO_REPLY = [

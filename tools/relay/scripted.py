@@ -97,12 +97,6 @@ class Scripted:
         finally:
             self._count(-1)
 
-    def wait_for(self, path: str, times: int, seconds: float = 20) -> None:
-        """Waits until a path was asked for so often."""
-        until = time.monotonic() + seconds
-        while self.asked[path] < times and time.monotonic() < until:
-            time.sleep(0.01)
-
     def script_of(self, path: str) -> Optional[Script]:
         """What is done for a path, which is counted."""
         with self._lock:

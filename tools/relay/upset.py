@@ -176,8 +176,8 @@ def one_late(front: Front, count: int, pause: float, findings: Findings) -> None
 def gone_clients(front: Front, times: int, findings: Findings) -> None:
     """Clients that go away while they wait: nothing is left of them, and the next ones are answered."""
     with Scripted({"/slow": script(0.5, OPEN)}) as server, front(server.port, 5000) as it:
-        # The check that it listens left a connection that may still be closing.
-        time.sleep(0.5)
+        # The check that it listens left a connection, which may linger for a second.
+        time.sleep(1.2)
         before = it.descriptors()
         for _ in range(times):
             with connect(it.port) as client:

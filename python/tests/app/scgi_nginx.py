@@ -35,12 +35,19 @@ def nginx(behind: int, more: str = "") -> Iterator[int]:
         path = pathlib.Path(folder) / "nginx.conf"
         path.write_text(text)
         run = subprocess.Popen(["nginx", "-p", folder, "-e", "stderr", "-c", str(path)], stderr=subprocess.DEVNULL)
-        try:
-            wait_for(port)
+        with listening(run, port):
             yield port
-        finally:
-            run.terminate()
-            run.wait()
+
+
+@contextlib.contextmanager
+def listening(run: "subprocess.Popen[bytes]", port: int) -> Iterator[None]:
+    """Waits for a server to listen, and ends it behind."""
+    try:
+        wait_for(port)
+        yield
+    finally:
+        run.terminate()
+        run.wait()
 
 
 def wait_for(port: int) -> None:

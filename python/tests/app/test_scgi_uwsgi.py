@@ -12,7 +12,7 @@ from typing import Iterator, List, Optional, Tuple
 
 sys.path.insert(0, os.path.dirname(os.path.abspath(__file__)))
 from scgi_asking import interpreter_with, program  # noqa: E402
-from scgi_nginx import IS_THERE, TOP, free_port, nginx, wait_for  # noqa: E402
+from scgi_nginx import IS_THERE, TOP, free_port, listening, nginx  # noqa: E402
 
 EXAMPLES = TOP / "examples/app"
 HAS_UWSGI = bool(shutil.which("uwsgi")) and os.path.exists("/usr/lib/uwsgi/plugins/python3_plugin.so")
@@ -32,12 +32,8 @@ def uwsgi(name: str) -> Iterator[int]:
         ["uwsgi", "--plugin", "python3", "--scgi-socket", "127.0.0.1:%d" % port, "--chdir", str(EXAMPLES), "--module",
          name, "--threads", "2", "--disable-logging", "--die-on-term"], stdout=subprocess.DEVNULL,
         stderr=subprocess.DEVNULL)
-    try:
-        wait_for(port)
+    with listening(run, port):
         yield port
-    finally:
-        run.terminate()
-        run.wait()
 
 
 def answers(port: int) -> List[Tuple[int, Optional[str], bytes]]:

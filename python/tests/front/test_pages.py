@@ -1,9 +1,15 @@
-"""What the front reads of EXPLAIN, and the versions that pages tell."""
+"""What the front reads of EXPLAIN, the versions that pages tell, and the commands of README and TOUR as they are typed."""
+import pathlib
 import re
+import subprocess
+import tempfile
 import unittest
+from typing import List
 
 from gvr.front import explain, version
 from gvr.front.program import TOP
+
+PROGRAM = TOP / "crates/gvr/out/gvr"
 
 
 class Explain(unittest.TestCase):
@@ -40,6 +46,46 @@ class Versions(unittest.TestCase):
         trace = (TOP / "docs/TRACE.md").read_text()
         self.assertIn(f"version {version.TRACE_FORMAT} of the trace", trace)
         self.assertIn(f"version {version.JSON_FORMAT} of the JSON lines", trace)
+
+
+class Commands(unittest.TestCase):
+    """Each in a folder that has what the repository has, so that what it writes stays there."""
+
+    def setUp(self) -> None:
+        folder = tempfile.TemporaryDirectory()
+        self.addCleanup(folder.cleanup)
+        self.folder = pathlib.Path(folder.name)
+        for each in TOP.iterdir():
+            if not each.name.startswith("."):
+                (self.folder / each.name).symlink_to(each)
+
+    def typed(self, page: str) -> List[str]:
+        """The lines of the page that call `./gvr` and stand by themselves."""
+        found = re.findall(r"^ {4,8}(\S.*)$", re.sub(r"(?ms)^```.*?^```$", "", (TOP / page).read_text()), re.M)
+        return [re.sub(r" +# .*", "", line).replace("FOLDER", "examples") for line in found if "report" in line or line.startswith("./gvr ")]
+
+    def shown(self, command: str) -> str:
+        """What it writes; it ends with 0 and complains of nothing but that no program is built."""
+        ended = subprocess.run(["sh", "-c", command], cwd=self.folder, stdin=subprocess.DEVNULL, capture_output=True, text=True)
+        self.assertEqual(ended.returncode, 0, (command, ended.stderr))
+        self.assertEqual(re.sub(r"^gvr: a model in Python answers.*\n", "", ended.stderr), "", command)
+        return ended.stdout
+
+    def test_each_of_readme(self) -> None:
+        self.assertEqual(self.typed("README.md"), ["./gvr run examples/three_at_once.gvr", "./gvr try examples"])
+        self.assertEqual(self.shown("./gvr run examples/three_at_once.gvr"), (TOP / "examples/three_at_once.trace").read_text())
+
+    def test_each_of_the_tour(self) -> None:
+        first, folder, connection, served, native, put, verified = self.typed("docs/TOUR.md")
+        self.assertEqual(self.shown(first), (TOP / "examples/hello.trace").read_text())
+        tried = self.shown(folder)
+        for file in TOP.glob("examples/*.trace"):
+            self.assertIn(f"== {file.stem}\n{file.read_text()}", tried)
+        self.assertEqual(self.shown(native) + self.shown(put), "")
+        self.assertRegex(self.shown(verified), r"^verified lines \d+\n$")
+        self.assertTrue(served.startswith("./gvr serve "), served)
+        if PROGRAM.is_file():
+            self.assertEqual(self.shown(connection), (TOP / "examples/two_requests.answer").read_bytes().decode())
 
 
 if __name__ == "__main__":

@@ -9,7 +9,7 @@ from gvr.front.program import TOP
 
 sys.path.insert(0, str(TOP / "tools"))
 import servers  # noqa: E402
-from relay import answers, asking, rows, scripted, upset  # noqa: E402
+from relay import answers, asking, reading, rows, scripted, upset  # noqa: E402
 
 REPORT = """Running 2s test @ http://127.0.0.1:8080/
   1 threads and 64 connections
@@ -174,6 +174,37 @@ class Rows(unittest.TestCase):
         self.assertEqual(answers.cell(short, silent, b""), "4 bytes, stays open")
         kept = asking.Answer("204 No Content", (), b"", b"", asking.KEPT)
         self.assertEqual(answers.cell(answers.FRAMING[5], kept, b"body"), "204, and 4 more")
+
+
+class Reading(unittest.TestCase):
+    """The second opinion on a reply, by hand."""
+
+    def check(self, said: bytes, expected: bytes, ending: str = scripted.ENDS, is_for_head: bool = False) -> None:
+        self.assertEqual(reading.sent(reading.read_reply(said, ending, is_for_head), is_for_head), expected, said)
+
+    def test_the_rows_of_the_other_tool(self) -> None:
+        for row in rows.ROWS:
+            if row not in rows.LATE:
+                said = b"".join(part for part in row.does.says if isinstance(part, bytes))
+                self.check(said, row.gvr, row.does.ends, row.method == "HEAD")
+
+    def test_defaults_of_a_status(self) -> None:
+        chunked = b"Transfer-Encoding: chunked\r\n\r\n"
+        self.check(b"Location: /x\n\n", b"HTTP/1.1 302 Found\r\nLocation: /x\r\n" + chunked + b"0\r\n\r\n")
+        self.check(b"A: b\r\n\r\nc", b"HTTP/1.1 200 OK\r\nA: b\r\n" + chunked + b"1\r\nc\r\n0\r\n\r\n")
+
+    def test_what_is_cut_off(self) -> None:
+        for ending, answer in ((scripted.ENDS, rows.BAD_GATEWAY), (scripted.RESETS, rows.BAD_GATEWAY),
+                               (scripted.STAYS, rows.TIMEOUT)):
+            for said in (b"", b"A: b\r\n", b"A: b\r\nContent-Length: 2\r\n\r\nc"):
+                self.check(said, answer, ending)
+        self.check(b"A: b\r\n\r\nc", rows.BAD_GATEWAY, scripted.RESETS)
+
+    def test_blanks_and_tokens(self) -> None:
+        whole = b"HTTP/1.1 200 OK\r\nA: b\r\nContent-Length: 1\r\n\r\nc"
+        self.check(b"status:  200 OK\r\nA:\tb\r\nContent-Length: 1\r\n\r\ncd", whole)
+        for line in (b"A b: c", b": c", b"A: \x7f", b"TE: x", b"Content-Length: 1 ", b"no colon"):
+            self.check(b"Status: 200 OK\r\n" + line + b"\r\n\r\nc", rows.BAD_GATEWAY)
 
 
 class Wrk(unittest.TestCase):

@@ -26,7 +26,8 @@ esac
 """
 RATTLE = """#!/bin/sh
 case "$*" in *--help*) echo --statements; exit 0 ;; esac
-echo "$1 $3" >> "$CALLS"
+case " $* " in *" --test "*) tests=" with its tests" ;; esac
+echo "$1 $3$tests" >> "$CALLS"
 case "$*" in *"--crate-name $FAILS "*) echo "fn f: not proved"; exit 1 ;; esac
 while [ $# -gt 0 ]; do [ "$1" != -o ] || : > "$2"; shift; done
 echo "only=1 proved=1"
@@ -123,6 +124,13 @@ class Check(Repository):
         self.assertEqual((ended.stdout, ended.stderr, ended.returncode), ("only=1 proved=1\n", "", 0))
         self.assertEqual(self.called(), ["check top"])
 
+    def test_the_tests_of_a_crate_are_proved_with_it(self) -> None:
+        self.call("prove_crates", "low")
+        (self.top / "crates/lone/src/lib.rt").write_text("//! lone\n#[test]\nfn t() {}\n")
+        self.called()
+        self.assertEqual(self.call("check", "lone").returncode, 0)
+        self.assertEqual(self.called(), ["check lone with its tests"])
+
     def test_a_wrong_body_is_refused_with_the_kits_words(self) -> None:
         self.call("prove_crates", "other")
         ended = self.call("check", "other", fails="other")
@@ -136,7 +144,7 @@ class Check(Repository):
     def test_a_name_that_is_no_crate(self) -> None:
         ended = self.call("check", "nothing")
         self.assertEqual((ended.stderr, ended.returncode), ("check: crates.txt has no crate nothing\n", 2))
-        self.assertEqual(self.call("check").returncode, 2)
+        self.assertEqual((self.call("check").returncode, self.call("check", "--help").returncode), (2, 0))
 
 
 class Sources(Repository):

@@ -14,8 +14,9 @@ import selectors
 from asyncio import CancelledError
 from typing import Any, Awaitable, Callable, Dict, List, Optional, Tuple, Type
 
+from .bodies import Names, Returned, Tree
 from .protocol import PLAIN, Fault, G, Unsupported, Value, kind_of, value_text
-from .tasks import MS, VOID, Names, Returned, TaskRun, Tree, serve_runs
+from .tasks import MS, VOID, TaskRun, serve_runs
 
 EXC: Dict[str, Type[BaseException]] = dict(PLAIN, GreenletExit=CancelledError, Empty=asyncio.QueueEmpty, Full=asyncio.QueueFull)
 QUEUES = {'fifo': asyncio.Queue, 'join': asyncio.Queue, 'lifo': asyncio.LifoQueue, 'prio': asyncio.PriorityQueue}

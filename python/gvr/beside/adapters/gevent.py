@@ -25,11 +25,9 @@ from gevent.queue import Channel, JoinableQueue, LifoQueue, PriorityQueue, Queue
 from gevent.threadpool import ThreadPool
 
 from . import virtual_loop
-from .protocol import (PLAIN, Budget, Err, Evaluator, Fault, G, InvalidSwitch, J, Log, Unsupported, Value, catches,
-                       job_outcome, kind_of, serve, serve_options, truth, value_text)
-
-Tree = Dict[str, Any]
-Names = Dict[str, Value]
+from .bodies import Bodies, Names, Returned, Tree
+from .protocol import (PLAIN, Budget, Err, Fault, G, InvalidSwitch, J, Unsupported, Value, job_outcome, kind_of, serve,
+                       serve_options, truth, value_text)
 
 EXC: Dict[str, Type[BaseException]] = dict(PLAIN, GreenletExit=GreenletExit, LoopExit=LoopExit)
 CLASSES = [(GreenletExit, 'GreenletExit'), (LoopExit, 'LoopExit'), (InvalidSwitch, 'InvalidSwitch')] + \
@@ -54,25 +52,20 @@ class InOrder(Dict[Any, bool]):
 VOID = (Budget, Unsupported, Abort)
 
 
-class Run:
+class Run(Bodies):
     def __init__(self, tree: Tree, options: argparse.Namespace) -> None:
-        self.options, self.ms_second = options, float(options.ms)
-        self.log = Log()
-        self.moves = self.timeouts = 0
+        super().__init__(tree, options)
+        self.ms_second = float(options.ms)
         self.greenlets: List[Any] = []                 # by number
         self.number_of: Dict[int, int] = {}            # by id
         self.raw: Set[int] = set()                     # numbers of raw greenlets
         self.parent: Dict[int, int] = {}               # their parents' numbers
-        self.begun: Set[int] = set()
-        self.outcomes: Dict[int, Tuple[str, Value]] = {}
         self.resumed: Dict[int, int] = {}              # by id: how often a greenlet was switched to
         self.timeout_number: Dict[int, Tuple[Any, int]] = {}
         self.links: Dict[int, Tuple[Any, Any]] = {}
         self.jobs: List[Any] = []
         self.queued: Dict[str, List[Tuple[float, threading.Event]]] = {}     # of native pools: jobs that wait for a thread
         self.running: Dict[str, int] = {}              # and how many have one
-        self.fns: Dict[str, Tree] = {f['name']: f for f in tree['functions']}
-        self.eval_ = Evaluator(self)
         self.main: Any = None
         set_hub(None)                                  # a hub and a loop of its own for each run
         self.hub = gevent.get_hub()
@@ -254,7 +247,7 @@ class Run:
 
     # ------------------------------------------------------------ statements
 
-    def block(self, statements: List[Tree], env: Names) -> Optional[Tuple[Value]]:
+    def block(self, statements: List[Tree], env: Names) -> Returned:
         """None, or (value,) at a return."""
         for st in statements:
             r = self.statement(st, env)
@@ -262,15 +255,7 @@ class Run:
                 return r
         return None
 
-    def move(self) -> None:
-        if self.moves == self.options.moves:
-            raise Budget
-        self.moves += 1
-
-    def ev(self, e: List[Any], env: Names) -> Any:
-        return self.eval_(e, env, self.me())
-
-    def statement(self, st: Tree, env: Names) -> Optional[Tuple[Value]]:
+    def statement(self, st: Tree, env: Names) -> Returned:
         """Run a statement; what `block` gives."""
         word = st['do']
         if word == 'while':
@@ -283,21 +268,20 @@ class Run:
         if word == 'try':
             return self.try_(st, env)
         if word == 'timeout':
-            t = Timeout(None if 'ms' not in st else self.seconds(st['ms']), False if st.get('silent') else None)
-            self.numbered(t, self.next_timeout())
-            with t:
-                return self.block(st['body'], env)
-        elif word == 'let':
-            env[st['name']] = self.ev(st['e'], env)
-        elif word == 'print':
-            self.log('print', g=self.me(), v=value_text(self.ev(st['e'], env)), line=st['line'])
-        elif word == 'raise':
-            raise self.to_exc(self.fault(self.ev(st['e'], env)))
-        else:
+            return self.timeout(st, env)
+        if not self.runs_alone(st, env):
             self.called(st, env)
         return None
 
-    def repeated(self, st: Tree, env: Names) -> Optional[Tuple[Value]]:
+    def timeout(self, st: Tree, env: Names) -> Returned:
+        """A `timeout` block."""
+        t = Timeout(None if 'ms' not in st else self.seconds(st['ms']), False if st.get('silent') else None)
+        self.numbered(t, self.next_timeout())
+        with t:
+            return self.block(st['body'], env)
+        return None                                    # a silent one came
+
+    def repeated(self, st: Tree, env: Names) -> Returned:
         """A `while`."""
         while True:
             self.move()
@@ -322,7 +306,7 @@ class Run:
         if 'into' in st:
             env[st['into']] = v
 
-    def try_(self, st: Tree, env: Names) -> Optional[Tuple[Value]]:
+    def try_(self, st: Tree, env: Names) -> Returned:
         pending, exc = None, None
         try:
             pending = self.block(st['body'], env)
@@ -330,19 +314,15 @@ class Run:
             raise
         except BaseException as e:
             exc = e
-            fault = self.to_fault(e)
-            for cls, name, body in st['excepts']:
-                if catches(cls, fault):
-                    if name is not None:
-                        env[name] = fault
-                    exc = None
-                    try:
-                        pending = self.block(body, env)
-                    except VOID:
-                        raise
-                    except BaseException as e2:
-                        exc = e2
-                    break
+            body = self.handler(st, self.to_fault(e), env)
+            if body is not None:
+                exc = None
+                try:
+                    pending = self.block(body, env)
+                except VOID:
+                    raise
+                except BaseException as e2:
+                    exc = e2
         if 'final' in st:
             r = self.block(st['final'], env)
             if r is not None:
@@ -362,11 +342,6 @@ class Run:
         if w is None:
             return True, None
         return (False, None) if w[0] == 'now' else (True, self.seconds(w[1]))
-
-    def fault(self, v: Any) -> Fault:
-        if not isinstance(v, Fault):
-            raise TypeError
-        return v
 
     def numbered(self, t: Any, n: int) -> None:
         self.timeout_number[id(t)] = (t, n)

@@ -6,46 +6,30 @@ what it has no method for is Unsupported.
 import argparse
 from typing import Any, Callable, Dict, List, NoReturn, Optional, Set, TextIO, Tuple, Type
 
-from .protocol import (Budget, Err, Evaluator, Fault, Log, Unsupported, Value, catches, serve, serve_options, truth,
-                       value_text)
-
-Tree = Dict[str, Any]
-Names = Dict[str, Value]
-Returned = Optional[Tuple[Value]]                  # (value,) at a return
+from .bodies import Bodies, Names, Returned, Tree
+from .protocol import Budget, Err, Fault, Unsupported, Value, serve, serve_options, truth, value_text
 
 VOID = (Budget, Unsupported)
 MS = 1 / 1024
 
 
-class TaskRun:
+class TaskRun(Bodies):
     """One run. `exceptions` has the runtime's exception of each kind of fault, `late_class` that of a Timeout."""
 
     exceptions: Dict[str, Type[BaseException]] = {}
     late_class: Type[BaseException] = TimeoutError
 
     def __init__(self, tree: Tree, options: argparse.Namespace) -> None:
-        self.options, self.log, self.moves = options, Log(), 0
-        self.fns: Dict[str, Tree] = {f['name']: f for f in tree['functions']}
-        self.eval_ = Evaluator(self)
-        self.begun: Set[int] = set()
-        self.outcomes: Dict[int, Tuple[str, Value]] = {}
-        self.timeouts = self.links = 0
+        super().__init__(tree, options)
+        self.links = 0
         self.void: Optional[str] = None
         self.kinds: Dict[str, Tree] = {o['name']: o for o in tree['objects']}
         self.objects: Dict[str, Any] = {}
 
     # ------------------------------------------------------------ what a runtime says
 
-    def me(self) -> int:
-        """The number of the task that runs."""
-        raise NotImplementedError
-
     def outcome(self, n: int) -> Optional[Tuple[str, Value]]:
         """How task n ended, `value` or `fault`; None if it has not."""
-        raise NotImplementedError
-
-    def query_object(self, form: str, name: str) -> Any:
-        """isset, counter, qsize, unfinished or members of an object."""
         raise NotImplementedError
 
     def steps(self) -> int:
@@ -122,14 +106,6 @@ class TaskRun:
                 return r
         return None
 
-    def move(self) -> None:
-        if self.moves == self.options.moves:
-            raise Budget
-        self.moves += 1
-
-    def ev(self, e: List[Any], env: Names) -> Any:
-        return self.eval_(e, env, self.me())
-
     async def statement(self, st: Tree, env: Names) -> Returned:
         """Run a statement; what `block` gives."""
         word = st['do']
@@ -144,13 +120,7 @@ class TaskRun:
             return await self.try_(st, env)
         if word == 'timeout':
             return await self.timeout(st, env)
-        if word == 'let':
-            env[st['name']] = self.ev(st['e'], env)
-        elif word == 'print':
-            self.log('print', g=self.me(), v=value_text(self.ev(st['e'], env)), line=st['line'])
-        elif word == 'raise':
-            raise self.to_exc(self.fault(self.ev(st['e'], env)))
-        else:
+        if not self.runs_alone(st, env):
             await self.called(st, env)
         return None
 
@@ -187,19 +157,16 @@ class TaskRun:
         except VOID:
             raise
         except BaseException as e:
-            exc, fault = e, self.to_fault(e)
-            for cls, name, body in st['excepts']:
-                if catches(cls, fault):
-                    if name is not None:
-                        env[name] = fault
-                    exc = None
-                    try:
-                        pending = await self.block(body, env)
-                    except VOID:
-                        raise
-                    except BaseException as e2:
-                        exc = e2
-                    break
+            exc = e
+            body = self.handler(st, self.to_fault(e), env)
+            if body is not None:
+                exc = None
+                try:
+                    pending = await self.block(body, env)
+                except VOID:
+                    raise
+                except BaseException as e2:
+                    exc = e2
         if 'final' in st:
             r = await self.block(st['final'], env)
             if r is not None:
@@ -207,11 +174,6 @@ class TaskRun:
         if exc is not None:
             raise exc
         return pending
-
-    def fault(self, v: Any) -> Fault:
-        if not isinstance(v, Fault):
-            raise TypeError
-        return v
 
     def obj(self, st: Tree) -> Any:
         """The object of a statement."""

@@ -20,8 +20,9 @@ from typing import Any, Awaitable, Callable, Dict, List, Optional, Tuple, Type
 import trio
 from trio._core import _run as run_loop
 
+from .bodies import Names, Returned, Tree
 from .protocol import PLAIN, G, Unsupported, Value, kind_of, value_text
-from .tasks import MS, VOID, Names, Returned, TaskRun, Tree, serve_runs
+from .tasks import MS, VOID, TaskRun, serve_runs
 
 EXC: Dict[str, Type[BaseException]] = dict(PLAIN, GreenletExit=trio.Cancelled)
 GRAIN = 2.0 ** -40               # between equal deadlines: trio's heap has no order of them, here it is that of making
