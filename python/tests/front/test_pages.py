@@ -76,7 +76,7 @@ class Commands(unittest.TestCase):
         self.assertEqual(self.shown("./gvr run examples/three_at_once.gvr"), (TOP / "examples/three_at_once.trace").read_text())
 
     def test_each_of_the_tour(self) -> None:
-        first, folder, connection, served, native, put, verified = self.typed("docs/TOUR.md")
+        first, folder, connection, served, native, put, verified, app, passing = self.typed("docs/TOUR.md")
         self.assertEqual(self.shown(first), (TOP / "examples/hello.trace").read_text())
         tried = self.shown(folder)
         for file in TOP.glob("examples/*.trace"):
@@ -84,6 +84,8 @@ class Commands(unittest.TestCase):
         self.assertEqual(self.shown(native) + self.shown(put), "")
         self.assertRegex(self.shown(verified), r"^verified lines \d+\n$")
         self.assertTrue(served.startswith("./gvr serve "), served)
+        # python/tests/app types these.
+        self.assertEqual((app[:11], passing[:13]), ("./gvr app l", "./gvr serve -"))
         if PROGRAM.is_file():
             self.assertEqual(self.shown(connection), (TOP / "examples/two_requests.answer").read_bytes().decode())
 
