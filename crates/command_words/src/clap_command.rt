@@ -37,6 +37,7 @@ fn name_of(option: &CommandOption) -> &'static str
         CommandOption::Gateway(name) => *name,
         CommandOption::Order(name) => *name,
         CommandOption::Check(name) => *name,
+        CommandOption::Drain(name) => *name,
     }
 }
 

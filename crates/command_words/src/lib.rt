@@ -9,7 +9,7 @@ mod reading;
 mod table;
 
 pub use command::{
-    GatewayKind, NamedCommand, ResultOrder, RunOptions, RunWorld, ServeAnswers, ServeOptions,
+    GatewayKind, NamedCommand, PassOptions, ResultOrder, RunOptions, RunWorld, ServeAnswers, ServeOptions,
     TextCommand, TraceCheck,
 };
 pub use laws::commands_are_in_range;
