@@ -61,12 +61,12 @@ fn write_slot(streams: &Slab<Option<Stream>>, slot: usize, first: &[u8], second:
 }
 
 impl<R: std::net::Net + Clock + Drop> MioDial<R> {
-    ghost use Rattle.mio_net.specs.Dialled.{meaning_in};
+    ghost use Rattle.mio_net.specs.Dialled.{meaning_in, port_of};
     ghost use Rattle.stream_dial.specs.Dials.{HasOpenedNone};
 
     /// Streams towards this, none of them opened yet.
     pub fn new(rt: R, alloc: Global, upstream: Upstream) -> io::Result<MioDial<R>>
-        ensures { IfOk result (λ dial. HasOpenedNone (meaning_in dial.annals.notes dial.moment)) }
+        ensures { IfOk result (λ dial. HasOpenedNone (meaning_in dial.annals.notes (port_of dial.upstream) dial.moment)) }
     {
         let start = Instant::now(&rt).ok();
         let poll = Poll::new(&rt)?;
@@ -92,9 +92,13 @@ impl<R: std::net::Net + Clock + Drop> MioDial<R> {
 }
 
 impl<R: std::net::Net + Clock + Drop> Dial for MioDial<R> {
-    ghost use Rattle.mio_net.specs.Dialled.{meaning_in};
+    ghost use Rattle.mio_net.specs.Dialled.{meaning_in, port_of};
 
-    ghost meaning = { λ d. meaning_in d.annals.notes d.moment };
+    ghost meaning = { λ d. meaning_in d.annals.notes (port_of d.upstream) d.moment };
+
+    fn aim(&mut self, port: u16) {
+        self.upstream = Upstream::Port(port);
+    }
 
     fn dial(&mut self) -> Result<usize, AllocError> {
         self.streams.reserve(1)?;
