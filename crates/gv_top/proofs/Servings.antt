@@ -218,8 +218,8 @@ serves_after : (end : Served) (asked : ℕ) (limits : Limits) (w : NetMeaning) (
 unfolding spent_as
 serves_after end asked limits w v out0 out1 h = record {
   serves = spent_as IsAtRest (λ port. IsOutOfJobs port w v) (λ port. IsOutOfJobs port w (stopped v)) end asked answers job_app limits w out0 out1 (λ port vain. vain_after port w v vain) h.serves;
-  earned = earned_after h.serves.port w.connections v h.earned;
-  out_of_jobs = λ vain. h.out_of_jobs (vain_before h.serves.port w v vain);
+  earned = earned_after h.serves.has.port w.connections v h.earned;
+  out_of_jobs = λ vain. h.out_of_jobs (vain_before h.serves.has.port w v vain);
 }
 
 logged_after : (v : World) (stood stands : List LogEntry → Type 0) → ((log : List LogEntry) → stood log ↔ stands log) → HasLegalLog v stood → HasLegalLog (stopped v) stands
