@@ -19,6 +19,7 @@ use std::sync::Wait;
 use std::test::Fail;
 use std::thread::{JoinHandle, Threads};
 use std::{io, thread};
+use stream_dial::MemoryDial;
 use stream_net::Net;
 use world::World;
 use wsgi_core::ShippedApp;
@@ -101,6 +102,7 @@ fn call_over<H: Wait, N: Net, W: World>(
     let mut err = MemorySink::new(alloc, 100)?;
     let mut out = MemorySink::new(alloc, 100)?;
     let mut input = MemorySource::new(Vec::new(alloc), 1, Vec::new(alloc));
+    let mut dial = MemoryDial::new(alloc, Vec::new(alloc));
     let status = gvr(
         rt,
         alloc,
@@ -110,6 +112,7 @@ fn call_over<H: Wait, N: Net, W: World>(
         &mut err,
         native,
         net,
+        &mut dial,
         &ShippedApp,
     );
     Ok(Left { status, out })

@@ -9,6 +9,7 @@ use gv_values::Answer;
 use http_messages::Sequence;
 use std::alloc::{AllocError, Global};
 use std::sync::Wait;
+use stream_dial::MemoryDial;
 use stream_net::{Arrivals, ConnScript, Net, Piece, Rooms};
 use world::{ListWorld, ScriptWorld, World};
 use wsgi_core::ShippedApp;
@@ -46,6 +47,7 @@ fn serve_net<N: Net, W: World, H: Wait>(
 {
     let words = words_of(alloc, line)?;
     let mut input = MemorySource::new(Vec::new(alloc), 1, Vec::new(alloc));
+    let mut dial = MemoryDial::new(alloc, Vec::new(alloc));
     Ok(gvr(
         rt,
         alloc,
@@ -55,6 +57,7 @@ fn serve_net<N: Net, W: World, H: Wait>(
         &mut written.err,
         native,
         net,
+        &mut dial,
         &ShippedApp,
     ))
 }

@@ -1,7 +1,7 @@
 //! Words, and what they ask for.
 use crate::calls::words_of;
 use command_words::{
-    GatewayKind, NamedCommand, RunOptions, RunWorld, ServeAnswers, ServeOptions, TextCommand,
+    GatewayKind, NamedCommand, PassOptions, RunOptions, RunWorld, ServeAnswers, ServeOptions, TextCommand,
     command_of,
 };
 use std::alloc::{AllocError, Global};
@@ -76,6 +76,7 @@ const NAMED: &[(&str, NamedCommand)] = &[
             pool: 100,
             idle: 60000,
             answers: ServeAnswers::Application(GatewayKind::Http),
+            drains: false,
         }),
     ),
     (
@@ -86,6 +87,7 @@ const NAMED: &[(&str, NamedCommand)] = &[
             pool: 100,
             idle: 60000,
             answers: ServeAnswers::Application(GatewayKind::Scgi),
+            drains: false,
         }),
     ),
     (
@@ -96,6 +98,7 @@ const NAMED: &[(&str, NamedCommand)] = &[
             pool: 1024,
             idle: 3600000,
             answers: ServeAnswers::Application(GatewayKind::Http),
+            drains: false,
         }),
     ),
     (
@@ -106,6 +109,7 @@ const NAMED: &[(&str, NamedCommand)] = &[
             pool: 100,
             idle: 1000,
             answers: ServeAnswers::Jobs(1),
+            drains: false,
         }),
     ),
     (
@@ -116,6 +120,46 @@ const NAMED: &[(&str, NamedCommand)] = &[
             pool: 100,
             idle: 60000,
             answers: ServeAnswers::Jobs(16),
+            drains: false,
+        }),
+    ),
+    (
+        "serve --port 8080 --conns 2 --pass 9000",
+        NamedCommand::Serve(ServeOptions {
+            port: 8080,
+            conns: 2,
+            pool: 100,
+            idle: 60000,
+            answers: ServeAnswers::Passing(PassOptions {
+                port: 9000,
+                patience: 60000,
+            }),
+            drains: false,
+        }),
+    ),
+    (
+        "serve --patience 3600000 --pass=1 --gateway=http --port 0 --drain input --conns 7",
+        NamedCommand::Serve(ServeOptions {
+            port: 0,
+            conns: 7,
+            pool: 100,
+            idle: 60000,
+            answers: ServeAnswers::Passing(PassOptions {
+                port: 1,
+                patience: 3600000,
+            }),
+            drains: true,
+        }),
+    ),
+    (
+        "serve --port 0 --drain=input",
+        NamedCommand::Serve(ServeOptions {
+            port: 0,
+            conns: 1000000,
+            pool: 100,
+            idle: 60000,
+            answers: ServeAnswers::Application(GatewayKind::Http),
+            drains: true,
         }),
     ),
     ("storm --size 19000", NamedCommand::Storm(19000)),
@@ -142,6 +186,15 @@ const NONE: &[&str] = &[
     "serve --port 1 --conns 1 --jobs 0",
     "serve --port 1 --conns 1 --jobs 17",
     "serve --port 1 --conns 1 --jobs 2 --gateway scgi",
+    "serve --port 1 --conns 1 --pass 0",
+    "serve --port 1 --conns 1 --pass 65536",
+    "serve --port 1 --conns 1 --pass 2 --jobs 2",
+    "serve --port 1 --conns 1 --pass 2 --gateway scgi",
+    "serve --port 1 --conns 1 --pass 2 --patience 0",
+    "serve --port 1 --conns 1 --patience 5",
+    "serve --port 1 --conns 1 --jobs 2 --patience 5",
+    "serve --port 1 --conns 1 --drain",
+    "serve --port 1 --conns 1 --drain output",
     "wsgi --gateway",
     "wsgi --gateway fcgi",
     "wsgi --gateway=HTTP",
