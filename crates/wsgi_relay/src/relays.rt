@@ -1,21 +1,19 @@
 //! The requests that are handed to an application server, and the connections that wait for its replies.
-ghost use Rattle.std.specs.Prelude.{◌≡◌, ◌≢◌, ℕ, ◌<◌, ◌≤◌, ◌++◌, true, [], ◌∷◌, length, Ok, Some, None, IfOk, IfSome, IsSome, OnOk, codes};
+ghost use Rattle.std.specs.Prelude.{◌≡◌, ◌≢◌, ℕ, ◌-◌, ◌^◌, ◌<◌, ◌≤◌, ◌++◌, true, [], ◌∷◌, length, Ok, Some, None, IfOk, IfSome, IsSome, OnOk, codes};
 ghost use Rattle.std.specs.List.{list_all};
 ghost use Rattle.http_messages.specs.Environ.{pair_value};
 ghost use Rattle.scgi_core.specs.Block.{is_value};
 ghost use Rattle.scgi_core.specs.Laws.{is_plain};
-ghost use Rattle.stream_net.specs.Net.{connection_at};
 ghost use Rattle.stream_server.specs.Protocols.{Apps};
 ghost use Rattle.stream_server.specs.Services.{BeginsAgain, Polls, TiesAfter};
 ghost use Rattle.stream_server.specs.Tables.{IsListed};
 ghost use Rattle.wsgi_relay.specs.Accounts.{AllAgree, IsAskedMore, asked_on, asker_in, given_in};
 ghost use Rattle.wsgi_relay.specs.Asking.{CanBeHanded, HasAsked, WantsRelay};
-ghost use Rattle.wsgi_relay.specs.Exchanging.{GoesOnIn, IsBegun, IsSameExchange, IsSent as IsSending};
+ghost use Rattle.wsgi_relay.specs.Exchanging.{HasCome, IsSame, IsSending, OnlyStream};
 ghost use Rattle.wsgi_relay.specs.Giving.{Gives};
 ghost use Rattle.wsgi_relay.specs.Laws.{relay_app};
-ghost use Rattle.wsgi_relay.specs.Relaying.{is_for_head};
 ghost use Rattle.wsgi_relay.specs.Talks.{rank_of, relay_protocol};
-ghost use Rattle.wsgi_relay.specs.Tied.{HandsOn, HasCome, HaveAsked, HaveAskedBut, HaveAskedOnce, IsKept, IsOver, IsTied, IsTiedBut, IsUnderWay, OpensFor, Puts, exchange_in};
+ghost use Rattle.wsgi_relay.specs.Tied.{HandsOn, HaveAsked, HaveAskedBut, HaveAskedOnce, IsBegun, IsKept, IsOver, IsTied, IsTiedBut, IsUnderWay, OpensFor, Puts, exchange_in};
 
 use crate::accounts::{AskedOn, Askers, GivenOn, Replies};
 use crate::exchange::{Exchange, advance, close_exchange, send};
@@ -174,7 +172,7 @@ impl Relays {
         ensures askers { self.new.askers.list ≡ self.old.askers.list }
         ensures replies { self.new.replies.list ≡ self.old.replies.list }
         ensures patience { self.new.patience ≡ self.old.patience }
-        ensures late { IfSome result (λ slot. (x : Exchange) × (exchange_in self.new.exchanges.items slot ≡ Some x) × (x.until < NEVER) × (x.until ≤ now)) }
+        ensures late { IfSome result (λ slot. (x : Exchange) × (exchange_in self.new.exchanges.items slot ≡ Some x) × (x.until < 2 ^ 64 - 1) × (x.until ≤ now)) }
     {
         for _ in 0..self.due.len() {
             let Some(due) = self.due.front() else {
@@ -202,9 +200,7 @@ impl Relays {
     ) -> Result<usize, AllocError>
         requires plain { list_all is_plain (asked_on asked.now.conn asked.now.session.now).environ ≡ true }
         requires body { body.now ≡ (asked_on asked.now.conn asked.now.session.now).body }
-        requires begun { IsBegun exchange.old (asked_on asked.now.conn asked.now.session.now).environ (length body.now) }
-        requires conn { exchange.old.conn ≡ asked.now.conn }
-        requires is_head { exchange.old.reader.is_head ≡ is_for_head (asked_on asked.now.conn asked.now.session.now) }
+        requires begun { IsBegun (asked_on asked.now.conn asked.now.session.now) exchange.old }
         requires kept { IsKept self.old.patience (D.meaning dial.old) self.old.askers.list (given_in self.old.replies.list) }
         ensures kept { IsKept self.new.patience (D.meaning dial.new) self.new.askers.list (given_in self.new.replies.list) }
         ensures askers { IsAskedMore self.old.askers.list self.new.askers.list (asked_on asked.now.conn asked.now.session.now) }
@@ -271,11 +267,11 @@ impl Relays {
         exchange: &mut Exchange,
     ) -> Result<Option<Far>, AllocError>
         requires { IsUnderWay (D.meaning dial.old) self.now.patience self.now.askers.list (IsListed table.now) slot exchange.old }
-        ensures only { GoesOnIn (D.meaning dial.old) (D.meaning dial.new) slot }
-        ensures same { IsSameExchange exchange.old exchange.new }
-        ensures sent { (number : ℕ) → (D.meaning dial.new).slots slot ≡ Some number → IsSending (connection_at (D.meaning dial.new).streams number) exchange.new (asker_in self.now.askers.list number).body }
+        ensures only { (number : ℕ) → (D.meaning dial.old).slots slot ≡ Some number → OnlyStream (D.meaning dial.old) (D.meaning dial.new) number }
+        ensures same { IsSame exchange.old exchange.new }
+        ensures sending { (number : ℕ) → (D.meaning dial.old).slots slot ≡ Some number → IsSending (D.meaning dial.new) number exchange.new.sent (exchange.new.head ++ (asker_in self.now.askers.list number).body) }
         ensures way { OnOk result (IsUnderWay (D.meaning dial.new) self.now.patience self.now.askers.list (IsListed table.now) slot exchange.new) }
-        ensures come { (far : Far) → result ≡ Ok (Some far) → (number : ℕ) → (D.meaning dial.new).slots slot ≡ Some number → HasCome far (D.meaning dial.new) number exchange.new }
+        ensures come { IfOk result (λ far. IfSome far (λ f. (number : ℕ) → (D.meaning dial.old).slots slot ≡ Some number → HasCome f (D.meaning dial.new) number exchange.new)) }
     {
         let Some(client) = table.get(exchange.conn) else {
             // A connection that waits for a reply is listed.
