@@ -1,9 +1,8 @@
 //! One request that was handed on over a stream, and the reply that comes.
-ghost use Rattle.std.specs.Prelude.{◌≡◌, ◌+◌, ◌^◌, ◌<◌, ◌≤◌, ◌++◌, ℕ, List, [], Ok, Some, false, true, drop, length, IfOk, IfSome, OnOk};
+ghost use Rattle.std.specs.Prelude.{◌≡◌, ◌+◌, ◌<◌, ◌≤◌, ◌++◌, ℕ, List, Ok, Some, drop, length, IfOk, IfSome, OnOk};
 ghost use Rattle.stream_dial.specs.Dials.{ClosesIn, IsOpen, ReadsIn, WritesIn};
-ghost use Rattle.relay_core.specs.Message.{scgi_message};
 ghost use Rattle.relay_core.specs.Replies.{IsReading, relayed};
-ghost use Rattle.wsgi_relay.specs.Exchanging.{HasCome, HasFed, IsDecided, IsExchanging, IsHearing, IsSame, IsSending, OnlyStream};
+ghost use Rattle.wsgi_relay.specs.Exchanging.{GoesOnIn, HasFed, HasShown, IsBegun, IsDecided, IsExchanging, IsHeard, IsSameExchange, IsSent, OfSlot};
 
 use http_messages::{Bytes, Environ};
 use relay_core::{Far, MOST_REPLY_BODY, MOST_REPLY_HEAD, ReplyReader, scgi_head};
@@ -50,12 +49,8 @@ impl Exchange {
         is_head: bool,
         until: u64,
     ) -> Result<Exchange, AllocError>
+        ensures begun { IfOk result (λ x. IsBegun x environ.now body_length) }
         ensures conn { IfOk result (λ x. x.conn ≡ conn) }
-        ensures head { IfOk result (λ x. (body : List ℕ) → length body ≡ body_length → x.head ++ body ≡ scgi_message environ.now body) }
-        ensures short { IfOk result (λ x. length x.head + body_length < 2 ^ 64) }
-        ensures unsent { IfOk result (λ x. x.sent ≡ 0) }
-        ensures unfailed { IfOk result (λ x. x.failed ≡ false) }
-        ensures begun { IfOk result (λ x. IsReading [] x.reader) }
         ensures is_head { IfOk result (λ x. x.reader.is_head ≡ is_head) }
         ensures until { IfOk result (λ x. x.until ≡ until) }
     {
@@ -104,11 +99,11 @@ fn send_some<D: Dial>(
 ) -> Result<bool, AllocError>
     requires opened { IsOpen (D.meaning dial.old) slot }
     requires left { exchange.old.sent < length exchange.old.head + length body.now }
-    requires exchanging { (number : ℕ) → (D.meaning dial.old).slots slot ≡ Some number → IsExchanging (D.meaning dial.old) number exchange.old body.now }
+    requires exchanging { OfSlot (D.meaning dial.old) slot (λ s. IsExchanging s exchange.old body.now) }
     ensures opened { IsOpen (D.meaning dial.new) slot }
-    ensures only { (number : ℕ) → (D.meaning dial.old).slots slot ≡ Some number → OnlyStream (D.meaning dial.old) (D.meaning dial.new) number }
-    ensures same { IsSame exchange.old exchange.new }
-    ensures exchanging { (number : ℕ) → (D.meaning dial.old).slots slot ≡ Some number → IsExchanging (D.meaning dial.new) number exchange.new body.now }
+    ensures only { GoesOnIn (D.meaning dial.old) (D.meaning dial.new) slot }
+    ensures same { IsSameExchange exchange.old exchange.new }
+    ensures exchanging { OfSlot (D.meaning dial.new) slot (λ s. IsExchanging s exchange.new body.now) }
     ensures more { result ≡ Ok true → exchange.old.sent < exchange.new.sent }
 {
     match write_left(dial, slot, exchange, body) {
@@ -134,11 +129,11 @@ pub fn send<D: Dial>(
     body: &[u8],
 ) -> Result<(), AllocError>
     requires opened { IsOpen (D.meaning dial.old) slot }
-    requires exchanging { (number : ℕ) → (D.meaning dial.old).slots slot ≡ Some number → IsExchanging (D.meaning dial.old) number exchange.old body.now }
+    requires exchanging { OfSlot (D.meaning dial.old) slot (λ s. IsExchanging s exchange.old body.now) }
     ensures opened { IsOpen (D.meaning dial.new) slot }
-    ensures only { (number : ℕ) → (D.meaning dial.old).slots slot ≡ Some number → OnlyStream (D.meaning dial.old) (D.meaning dial.new) number }
-    ensures same { IsSame exchange.old exchange.new }
-    ensures exchanging { (number : ℕ) → (D.meaning dial.old).slots slot ≡ Some number → IsExchanging (D.meaning dial.new) number exchange.new body.now }
+    ensures only { GoesOnIn (D.meaning dial.old) (D.meaning dial.new) slot }
+    ensures same { IsSameExchange exchange.old exchange.new }
+    ensures exchanging { OfSlot (D.meaning dial.new) slot (λ s. IsExchanging s exchange.new body.now) }
 {
     while !exchange.failed && exchange.sent < exchange.head.len() + body.len() {
         if !send_some(dial, slot, exchange, body)? {
@@ -162,15 +157,14 @@ fn receive_some<D: Dial>(
 ) -> Result<Heard, AllocError>
     requires opened { IsOpen (D.meaning dial.old) slot }
     requires room { 0 < length buffer.old }
-    requires hearing { (number : ℕ) → (D.meaning dial.old).slots slot ≡ Some number → IsHearing (D.meaning dial.old) number exchange.old }
+    requires heard { OfSlot (D.meaning dial.old) slot (λ s. IsHeard s exchange.old) }
     ensures opened { IsOpen (D.meaning dial.new) slot }
-    ensures only { (number : ℕ) → (D.meaning dial.old).slots slot ≡ Some number → OnlyStream (D.meaning dial.old) (D.meaning dial.new) number }
-    ensures same { IsSame exchange.old exchange.new }
-    ensures sending { (number sent : ℕ) (bytes : List ℕ) → (D.meaning dial.old).slots slot ≡ Some number → IsSending (D.meaning dial.old) number sent bytes → IsSending (D.meaning dial.new) number sent bytes }
-    ensures sent { exchange.new.sent ≡ exchange.old.sent }
-    ensures hearing { OnOk result ((number : ℕ) → (D.meaning dial.old).slots slot ≡ Some number → IsHearing (D.meaning dial.new) number exchange.new) }
-    ensures more { result ≡ Ok Heard.Bytes → (n : ℕ) → HasFed exchange.old.reader n → HasFed exchange.new.reader (n + 1) }
-    ensures over { (far : Far) (number : ℕ) → result ≡ Ok (Heard.Over far) → (D.meaning dial.old).slots slot ≡ Some number → HasCome far (D.meaning dial.new) number exchange.new }
+    ensures only { GoesOnIn (D.meaning dial.old) (D.meaning dial.new) slot }
+    ensures same { IsSameExchange exchange.old exchange.new }
+    ensures sent { (body : List ℕ) → OfSlot (D.meaning dial.old) slot (λ s. IsSent s exchange.old body) → OfSlot (D.meaning dial.new) slot (λ s. IsSent s exchange.new body) }
+    ensures heard { OnOk result (OfSlot (D.meaning dial.new) slot (λ s. IsHeard s exchange.new)) }
+    ensures more { result ≡ Ok Heard.Bytes → (n : ℕ) → HasFed exchange.old n → HasFed exchange.new (n + 1) }
+    ensures over { (far : Far) → result ≡ Ok (Heard.Over far) → OfSlot (D.meaning dial.new) slot (λ s. HasShown far s exchange.new) }
 {
     match dial.read(slot, buffer) {
         ReadEnd::Got(count) => {
@@ -199,14 +193,13 @@ fn receive<D: Dial>(
 ) -> Result<Option<Far>, AllocError>
     requires opened { IsOpen (D.meaning dial.old) slot }
     requires room { 0 < length buffer.old }
-    requires hearing { (number : ℕ) → (D.meaning dial.old).slots slot ≡ Some number → IsHearing (D.meaning dial.old) number exchange.old }
+    requires heard { OfSlot (D.meaning dial.old) slot (λ s. IsHeard s exchange.old) }
     ensures opened { IsOpen (D.meaning dial.new) slot }
-    ensures only { (number : ℕ) → (D.meaning dial.old).slots slot ≡ Some number → OnlyStream (D.meaning dial.old) (D.meaning dial.new) number }
-    ensures same { IsSame exchange.old exchange.new }
-    ensures sending { (number sent : ℕ) (bytes : List ℕ) → (D.meaning dial.old).slots slot ≡ Some number → IsSending (D.meaning dial.old) number sent bytes → IsSending (D.meaning dial.new) number sent bytes }
-    ensures sent { exchange.new.sent ≡ exchange.old.sent }
-    ensures hearing { OnOk result ((number : ℕ) → (D.meaning dial.old).slots slot ≡ Some number → IsHearing (D.meaning dial.new) number exchange.new) }
-    ensures come { IfOk result (λ far. IfSome far (λ f. (number : ℕ) → (D.meaning dial.old).slots slot ≡ Some number → HasCome f (D.meaning dial.new) number exchange.new)) }
+    ensures only { GoesOnIn (D.meaning dial.old) (D.meaning dial.new) slot }
+    ensures same { IsSameExchange exchange.old exchange.new }
+    ensures sent { (body : List ℕ) → OfSlot (D.meaning dial.old) slot (λ s. IsSent s exchange.old body) → OfSlot (D.meaning dial.new) slot (λ s. IsSent s exchange.new body) }
+    ensures heard { OnOk result (OfSlot (D.meaning dial.new) slot (λ s. IsHeard s exchange.new)) }
+    ensures far { (far : Far) → result ≡ Ok (Some far) → OfSlot (D.meaning dial.new) slot (λ s. HasShown far s exchange.new) }
 {
     for count in 0..MOST_REPLY_HEAD + MOST_REPLY_BODY + 1 {
         match receive_some(dial, slot, exchange, buffer)? {
@@ -231,13 +224,13 @@ pub fn advance<D: Dial>(
 ) -> Result<Option<Far>, AllocError>
     requires opened { IsOpen (D.meaning dial.old) slot }
     requires room { 0 < length buffer.old }
-    requires exchanging { (number : ℕ) → (D.meaning dial.old).slots slot ≡ Some number → IsExchanging (D.meaning dial.old) number exchange.old body.now }
+    requires exchanging { OfSlot (D.meaning dial.old) slot (λ s. IsExchanging s exchange.old body.now) }
     ensures opened { IsOpen (D.meaning dial.new) slot }
-    ensures only { (number : ℕ) → (D.meaning dial.old).slots slot ≡ Some number → OnlyStream (D.meaning dial.old) (D.meaning dial.new) number }
-    ensures same { IsSame exchange.old exchange.new }
-    ensures sending { (number : ℕ) → (D.meaning dial.old).slots slot ≡ Some number → IsSending (D.meaning dial.new) number exchange.new.sent (exchange.new.head ++ body.now) }
-    ensures exchanging { OnOk result ((number : ℕ) → (D.meaning dial.old).slots slot ≡ Some number → IsExchanging (D.meaning dial.new) number exchange.new body.now) }
-    ensures come { IfOk result (λ far. IfSome far (λ f. (number : ℕ) → (D.meaning dial.old).slots slot ≡ Some number → HasCome f (D.meaning dial.new) number exchange.new)) }
+    ensures only { GoesOnIn (D.meaning dial.old) (D.meaning dial.new) slot }
+    ensures same { IsSameExchange exchange.old exchange.new }
+    ensures sent { OfSlot (D.meaning dial.new) slot (λ s. IsSent s exchange.new body.now) }
+    ensures exchanging { OnOk result (OfSlot (D.meaning dial.new) slot (λ s. IsExchanging s exchange.new body.now)) }
+    ensures far { (far : Far) → result ≡ Ok (Some far) → OfSlot (D.meaning dial.new) slot (λ s. HasShown far s exchange.new) }
 {
     send(dial, slot, exchange, body)?;
     receive(dial, slot, exchange, buffer)
@@ -252,10 +245,10 @@ pub fn close_exchange<D: Dial>(
     far: Far,
 ) -> Result<Reply, AllocError>
     requires opened { IsOpen (D.meaning dial.old) slot }
-    requires hearing { (number : ℕ) → (D.meaning dial.old).slots slot ≡ Some number → IsHearing (D.meaning dial.old) number exchange }
-    requires decided { far ≡ Far.GoesOn → IsDecided exchange.reader }
+    requires heard { OfSlot (D.meaning dial.old) slot (λ s. IsHeard s exchange) }
+    requires decided { far ≡ Far.GoesOn → IsDecided exchange }
     ensures closes { ClosesIn (D.meaning dial.old) (D.meaning dial.new) slot }
-    ensures reply { IfOk result (λ reply. (got : List ℕ) → IsReading got exchange.reader → relayed exchange.reader.is_head far got ≡ Some reply) }
+    ensures reply { IfOk result (λ reply. (fed : List ℕ) → IsReading fed exchange.reader → relayed exchange.reader.is_head far fed ≡ Some reply) }
 {
     dial.close(slot);
     match exchange.reader.reply(far)? {
