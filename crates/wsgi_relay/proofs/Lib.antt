@@ -1,3 +1,4 @@
+pub mod Adding
 pub mod Earning
 pub mod ExchangeLaws
 pub mod Keeping

@@ -25,15 +25,16 @@ use Rattle.wsgi_core.specs.declared.reply.Reply.{Reply}
 use Rattle.wsgi_core.specs.declared.session.Session.{Session}
 use Rattle.wsgi_relay.specs.Accounts.{AllAgree, IsAsked, asker_in, given_in, given_on, or_empty}
 use Rattle.wsgi_relay.specs.Asking.{HasAsked}
-use Rattle.wsgi_relay.specs.Exchanging.{HasCome, OnlyStream}
+use Rattle.wsgi_relay.specs.Exchanging.{HasShown, IsDecided, OfSlot}
 use Rattle.wsgi_relay.specs.Giving.{Gives, IsGivenTo}
 use Rattle.wsgi_relay.specs.Laws.{next_most}
 use Rattle.wsgi_relay.specs.Relaying.{Agrees, Asked, CameTo, Given, HasStream, IsAnswered, asked_by, is_for_head, owner_of}
 use Rattle.wsgi_relay.specs.Talks.{next_of, rank_of, relay_protocol, request_of}
-use Rattle.wsgi_relay.specs.Tied.{Awaits, HaveAsked, HaveAskedBut, HaveAskedOnce, IsKept, IsUnderWay}
+use Rattle.wsgi_relay.specs.Tied.{Awaits, HaveAsked, HaveAskedBut, HaveAskedOnce, IsKept, IsLate, IsUnderWay}
 use Rattle.wsgi_relay.specs.declared.exchange.Exchange.{Exchange}
 use Rattle.wsgi_relay.specs.declared.relay_talk.RelayTalk.{RelayTalk}
-use Rattle.wsgi_relay.proofs.Keeping.{given_here, given_stays, kept_given}
+use Rattle.wsgi_relay.proofs.Keeping.{given_here, given_stays}
+use Rattle.wsgi_relay.proofs.Tying.{OnlyStream}
 
 -- ---- the stream is closed
 
@@ -42,7 +43,6 @@ pub closes_only : (v w : DialMeaning) (slot number : ℕ) → ClosesIn v w slot 
 closes_only v w slot number closes is within = record {
   streams = c.connections ∙ ap (λ (s : Connection). slice_set v.streams number s) (sym (at));
   none = closes.none;
-  moment = c.rest.moment;
 }
   where
     c : Changes (net_of v.streams v.moment) (net_of w.streams w.moment) number (closed_at w.moment)
@@ -56,11 +56,27 @@ closed_is v w slot number closes is within =
     let c = closes.closes number is in
     ap (λ (cs : List Connection). connection_at cs number) c.connections ∙ get_or-set_same v.streams number (closed_at w.moment (connection_at v.streams number)) absent_connection within
 
-came_to : (far : Far) (m : DialMeaning) (number opened patience moment : ℕ) (x : Exchange) → HasCome far m number x → m.moment ≤ moment → (x.until < 2 ^ 64 - 1 → opened + patience ≤ x.until) → CameTo far opened patience (closed_at moment (connection_at m.streams number))
-came_to GoesOn m number opened patience moment x come later timely = tt
-came_to Ended m number opened patience moment x come later timely = come.0
-came_to Broken m number opened patience moment x come later timely = come
-came_to Late m number opened patience moment x come later timely = le_trans (timely come.0) (le_trans come.1 later)
+came_shown : (far : Far) (opened patience moment : ℕ) (s : Connection) (x : Exchange) → HasShown far s x → CameTo far opened patience (closed_at moment s)
+came_shown GoesOn opened patience moment s x shown = tt
+came_shown Ended opened patience moment s x shown = shown.0
+came_shown Broken opened patience moment s x shown = shown
+came_shown Late opened patience moment s x shown = absurd shown
+
+came_late : (far : Far) (m : DialMeaning) (opened patience moment : ℕ) (s : Connection) (x : Exchange) → IsLate far m x → m.moment ≤ moment → (x.until < 2 ^ 64 - 1 → opened + patience ≤ x.until) → CameTo far opened patience (closed_at moment s)
+came_late far m opened patience moment s x l later timely =
+    let is : CameTo Late opened patience (closed_at moment s) = le_trans (timely l.comes) (le_trans l.over later) in
+    subst (λ (f : Far). CameTo f opened patience (closed_at moment s)) (sym l.late) is
+
+-- its end is one that the closed stream shows
+came_to : (far : Far) (m : DialMeaning) (slot number opened patience moment : ℕ) (x : Exchange) → m.slots slot ≡ Some number → OfSlot m slot (λ s. HasShown far s x) ⊎ IsLate far m x → m.moment ≤ moment → (x.until < 2 ^ 64 - 1 → opened + patience ≤ x.until)
+    → CameTo far opened patience (closed_at moment (connection_at m.streams number))
+came_to far m slot number opened patience moment x is (inl shown) later timely = came_shown far opened patience moment (connection_at m.streams number) x (shown number is)
+came_to far m slot number opened patience moment x is (inr late) later timely = came_late far m opened patience moment (connection_at m.streams number) x late later timely
+
+-- one that goes on is decided
+pub over_decided : (far : Far) (m : DialMeaning) (slot number : ℕ) (x : Exchange) → m.slots slot ≡ Some number → OfSlot m slot (λ s. HasShown far s x) ⊎ IsLate far m x → far ≡ GoesOn → IsDecided x
+over_decided far m slot number x is (inl shown) goes_on = subst (λ (f : Far). HasShown f (connection_at m.streams number) x) goes_on (shown number is)
+over_decided far m slot number x is (inr late) goes_on = absurd (cc (late.late, goes_on))
 
 -- the request, by what its session says
 asked_is : (a : Asked) (conn : ℕ) (g : Client RelayTalk) (reply : Reply) → Awaits a g → g.conn ≡ conn → a ≡ asked_by conn (answered_of g.talk.session) (given_on g.talk.session reply)
@@ -70,7 +86,7 @@ asked_is a conn g reply w number_is =
 
 -- the reply was read on the stream of the request
 pub answered_stream : (patience : ℕ) (v w : DialMeaning) (asked : List Asked) (listed : ℕ → Option (Client RelayTalk) → Type 0) (slot : ℕ) (x : Exchange) (far : Far) (reply : Reply) (g : Client RelayTalk) (u : IsUnderWay v patience asked listed slot x)
-    → HasCome far v u.number x → ClosesIn v w slot → ((got : List ℕ) → IsReading got x.reader → relayed x.reader.is_head far got ≡ Some reply) → listed x.conn (Some g) → g.conn ≡ x.conn
+    → OfSlot v slot (λ s. HasShown far s x) ⊎ IsLate far v x → ClosesIn v w slot → ((got : List ℕ) → IsReading got x.reader → relayed x.reader.is_head far got ≡ Some reply) → listed x.conn (Some g) → g.conn ≡ x.conn
     → HasStream (asker_in asked) w patience x.conn (answered_of g.talk.session) (given_on g.talk.session reply)
 answered_stream patience v w asked listed slot x far reply g u come closes relays row number_is = record {
   stream = u.number;
@@ -79,20 +95,20 @@ answered_stream patience v w asked listed slot x far reply g u come closes relay
   answered = subst (λ (c : Connection). IsAnswered (asked_by x.conn (answered_of g.talk.session) (given_on g.talk.session reply)) reply (slice_index_or w.opened u.number 0) patience c) (sym at)
       (subst (λ (os : List ℕ). IsAnswered (asked_by x.conn (answered_of g.talk.session) (given_on g.talk.session reply)) reply (slice_index_or os u.number 0) patience (closed_at w.moment s)) (sym only.none.opened)
       (subst (λ (a : Asked). IsAnswered a reply (slice_index_or v.opened u.number 0) patience (closed_at w.moment s)) is record {
-    closed = refl;
-    far = far;
-    came = came_to far v u.number (slice_index_or v.opened u.number 0) patience w.moment x come only.moment u.its.timely;
-    got = u.exchanging.hearing.got;
-    reads = u.exchanging.hearing.reads;
-    relays = ap (λ (b : Bool). relayed b far u.exchanging.hearing.got) (sym u.its.is_head) ∙ relays u.exchanging.hearing.got u.exchanging.hearing.reading;
-  }));
+        closed = refl;
+        far = far;
+        came = came_to far v slot u.number (slice_index_or v.opened u.number 0) patience w.moment x u.is come (closes.closes u.number u.is).rest.moment u.its.timely;
+        got = u.exchanging.heard.fed;
+        reads = u.exchanging.heard.read;
+        relays = ap (λ (b : Bool). relayed b far u.exchanging.heard.fed) (sym u.its.is_head) ∙ relays u.exchanging.heard.fed u.exchanging.heard.reading;
+      }));
 }
   where
     s : Connection
     s = connection_at v.streams u.number
 
     within : u.number < length v.streams
-    within = u.exchanging.sending.live.accepted
+    within = u.live.accepted
 
     only : OnlyStream v w u.number
     only = closes_only v w slot u.number closes u.is within
@@ -114,8 +130,8 @@ given_new patience v asked list listed slot x g u kept once row number_is conn n
     let w = u.held (Some g) row in
     let owners : owner_of (asker_in asked) s.stream ≡ owner_of (asker_in asked) u.number =
     (λ i. ((s.asked i).conn, (s.asked i).number)) ∙ (λ i. (sym same_conn i, sym same_number i)) ∙ (λ i. ((sym (w.conn ∙ number_is)) i, (sym w.number) i)) in
-    let streams : s.stream ≡ u.number = once s.stream u.number (subst (λ (n : ℕ). s.stream < n) (sym kept.count) s.opened) (subst (λ (n : ℕ). u.number < n) (sym kept.count) u.exchanging.sending.live.accepted) owners in
-    false≢true (sym u.exchanging.sending.live.still_open ∙ ap (λ (n : ℕ). (connection_at v.streams n).closed) (sym streams) ∙ s.answered.closed)
+    let streams : s.stream ≡ u.number = once s.stream u.number (subst (λ (n : ℕ). s.stream < n) (sym kept.count) s.opened) (subst (λ (n : ℕ). u.number < n) (sym kept.count) u.live.accepted) owners in
+    false≢true (sym u.live.still_open ∙ ap (λ (n : ℕ). (connection_at v.streams n).closed) (sym streams) ∙ s.answered.closed)
 
 -- what agrees with one reply more agreed before
 pub agreed_before : (conn number : ℕ) (g : Given) (list : List ((ℕ × ℕ) × Given)) → ((k i : ℕ) (old : Given) → given_in list k i ≡ Some old → conn ≡ k → number ≡ i → ⊥) → (apps : Apps) → AllAgree (given_in (((conn, number), g) ∷ list)) apps → AllAgree (given_in list) apps

@@ -1,22 +1,21 @@
 -- The exchanges stay tied to their streams and their clients.
 use Rattle.std.proofs.Common.{◌≡◌, ◌≢◌, ◌⊎◌, inl, inr, ℕ, ◌+◌, ◌<◌, ◌≤◌, true, false, List, [], ◌∷◌, ◌++◌, length, take, ◌-◌, ◌^◌, Option, Some, None, slice_index_or, slice_set, refl, sym, ap, ◌∙◌, subst, arith}
-use Rattle.std.specs.Prelude.{IfSome}
 use Rattle.std.proofs.lemmas.Bool.{cases_eq, false≢true}
 use Rattle.std.proofs.lemmas.List.{length-set, get_or-set_same, get_or-set_other}
-use Rattle.relay_core.specs.declared.reader.ReplyReader.{ReplyReader}
 use Rattle.stream_net.specs.Net.{Connection, IsLive, connection_at, absent_connection}
 use Rattle.stream_dial.specs.Dials.{DialMeaning, IsOpen, OpensNone, StaysDialled, net_of}
 use Rattle.stream_server.specs.Keeping.{Listing}
 use Rattle.stream_server.specs.declared.client.Client.{Client}
 use Rattle.wsgi_relay.specs.Accounts.{asker_in, nobody}
-use Rattle.wsgi_relay.specs.Exchanging.{IsExchanging, IsHearing, IsNoted, IsSame, IsSending, OnlyStream}
+use Rattle.wsgi_relay.specs.Exchanging.{GoesOnIn, IsExchanging, IsSameExchange}
 use Rattle.wsgi_relay.specs.Relaying.{Asked, owner_of}
 use Rattle.wsgi_relay.specs.Tied.{Awaits, HandsOn, HasOneMore, HaveAskedOnce, IsFor, IsKept, IsOf, IsTied, IsTiedBut, IsUnderWay, OpensFor, Puts, exchange_in}
 use Rattle.wsgi_relay.specs.declared.exchange.Exchange.{Exchange}
 use Rattle.wsgi_relay.specs.declared.relay_talk.RelayTalk.{RelayTalk}
 use Rattle.wsgi_relay.proofs.Keeping.{push_before, push_last}
+use Rattle.wsgi_relay.proofs.Streaming.{live_still}
 
-same_some : {A : Type 0} (o : Option A) (x y : A) → o ≡ Some x → o ≡ Some y → x ≡ y
+pub same_some : {A : Type 0} (o : Option A) (x y : A) → o ≡ Some x → o ≡ Some y → x ≡ y
 same_some o x y e f = cc
 
 none_some : {A : Type 0} (o : Option A) (x : A) → o ≡ None → o ≡ Some x → ⊥
@@ -24,22 +23,10 @@ none_some o x e f = absurd (cc)
 
 -- ---- one exchange
 
--- a stream that stays as it is goes on with its exchange
-pub exchanging_at : (v w : DialMeaning) (n : ℕ) (x : Exchange) (body : List ℕ) → IsExchanging v n x body → n < length w.streams → connection_at w.streams n ≡ connection_at v.streams n → IsExchanging w n x body
-exchanging_at v w n x body e within at = record {
-  short = e.short;
-  sending = record {
-    live = record { accepted = within; still_open = ap (λ (c : Connection). c.closed) at ∙ e.sending.live.still_open };
-    within = e.sending.within;
-    wrote = subst (λ (c : Connection). IfSome c.written (λ out. out ≡ take x.sent (x.head ++ body))) (sym at) e.sending.wrote;
-  };
-  hearing = record {
-    got = e.hearing.got;
-    reads = subst (λ (c : Connection). IfSome c.read (λ bytes. bytes ≡ e.hearing.got)) (sym at) e.hearing.reads;
-    reading = e.hearing.reading;
-    noted = subst (λ (c : Connection). IsNoted x.failed c.faults) (sym at) e.hearing.noted;
-  };
-}
+-- of the stream of this number things were changed, and of no other
+pub record OnlyStream (v w : DialMeaning) (number : ℕ) : Type 0 where
+  pub streams : w.streams ≡ slice_set v.streams number (connection_at w.streams number)
+  pub none : OpensNone v w
 
 -- one whose stream, slot and client stay goes on
 pub way_at : (patience : ℕ) (v w : DialMeaning) (asked more : List Asked) (listed now : Listing RelayTalk) (slot : ℕ) (x : Exchange) (u : IsUnderWay v patience asked listed slot x) → w.slots slot ≡ v.slots slot → u.number < length w.streams
@@ -48,40 +35,44 @@ pub way_at : (patience : ℕ) (v w : DialMeaning) (asked more : List Asked) (lis
 way_at patience v w asked more listed now slot x u slots within at opened asks rows = record {
   number = u.number;
   is = slots ∙ u.is;
+  live = record { accepted = within; still_open = ap (λ (c : Connection). c.closed) at ∙ u.live.still_open };
   its = subst (λ (o : ℕ). IsOf (asker_in more u.number) o patience x) (sym opened) (subst (λ (a : Asked). IsOf a (slice_index_or v.opened u.number 0) patience x) (sym asks) u.its);
-  exchanging = subst (λ (a : Asked). IsExchanging w u.number x a.body) (sym asks) (exchanging_at v w u.number x (asker_in asked u.number).body u.exchanging within at);
+  exchanging = subst (λ (a : Asked). IsExchanging (connection_at w.streams u.number) x a.body) (sym asks) (subst (λ (c : Connection). IsExchanging c x (asker_in asked u.number).body) (sym at) u.exchanging);
   held = λ row is. subst (λ (a : Asked). IsFor a row) (sym asks) (u.held row (rows row is));
 }
 
 -- its stream is open
 pub way_open : (patience : ℕ) (m : DialMeaning) (asked : List Asked) (listed : Listing RelayTalk) (slot : ℕ) (x : Exchange) → IsUnderWay m patience asked listed slot x → IsOpen m slot
-way_open patience m asked listed slot x u = record { number = u.number; is = u.is; live = u.exchanging.sending.live }
+way_open patience m asked listed slot x u = record { number = u.number; is = u.is; live = u.live }
 
 -- what a slot has is the stream of its exchange
 pub way_number : (patience : ℕ) (m : DialMeaning) (asked : List Asked) (listed : Listing RelayTalk) (slot : ℕ) (x : Exchange) (u : IsUnderWay m patience asked listed slot x) (n : ℕ) → m.slots slot ≡ Some n → u.number ≡ n
 way_number patience m asked listed slot x u n is = same_some (m.slots slot) u.number n u.is is
 
-pub way_exchanging : (patience : ℕ) (m : DialMeaning) (asked : List Asked) (listed : Listing RelayTalk) (slot : ℕ) (x : Exchange) (u : IsUnderWay m patience asked listed slot x) (n : ℕ) → m.slots slot ≡ Some n → IsExchanging m n x (asker_in asked n).body
-way_exchanging patience m asked listed slot x u n is = subst (λ (k : ℕ). IsExchanging m k x (asker_in asked k).body) (way_number patience m asked listed slot x u n is) u.exchanging
+pub way_exchanging : (patience : ℕ) (m : DialMeaning) (asked : List Asked) (listed : Listing RelayTalk) (slot : ℕ) (x : Exchange) (u : IsUnderWay m patience asked listed slot x) (n : ℕ) → m.slots slot ≡ Some n → IsExchanging (connection_at m.streams n) x (asker_in asked n).body
+way_exchanging patience m asked listed slot x u n is = subst (λ (k : ℕ). IsExchanging (connection_at m.streams k) x (asker_in asked k).body) (way_number patience m asked listed slot x u n is) u.exchanging
 
--- after a call that changed its stream alone
-pub way_gone_on : (patience : ℕ) (v w : DialMeaning) (asked : List Asked) (listed : Listing RelayTalk) (slot : ℕ) (x y : Exchange) (u : IsUnderWay v patience asked listed slot x) → OnlyStream v w u.number → IsSame x y → IsExchanging w u.number y (asker_in asked u.number).body
-    → IsUnderWay w patience asked listed slot y
+-- after a call that changed its stream alone, and left it open
+pub way_gone_on : (patience : ℕ) (v w : DialMeaning) (asked : List Asked) (listed : Listing RelayTalk) (slot : ℕ) (x y : Exchange) (u : IsUnderWay v patience asked listed slot x) → GoesOnIn v w slot → IsSameExchange x y
+    → IsExchanging (connection_at w.streams u.number) y (asker_in asked u.number).body → IsUnderWay w patience asked listed slot y
 way_gone_on patience v w asked listed slot x y u only same e = record {
   number = u.number;
   is = ap (λ (slots : ℕ → Option ℕ). slots slot) only.none.slots ∙ u.is;
+  live = live_still v w slot only u.number u.is u.live;
   its = record {
     conn = u.its.conn ∙ sym same.conn;
     message = ap (λ (head : List ℕ). head ++ (asker_in asked u.number).body) same.head ∙ u.its.message;
     is_head = same.is_head ∙ u.its.is_head;
     timely = λ short.
-        let until = same.until in
         let timely = u.its.timely (subst (λ (t : ℕ). t < 2 ^ 64 - 1) same.until short) in
         subst (λ (os : List ℕ). slice_index_or os u.number 0 + patience ≤ y.until) (sym only.none.opened) (subst (λ (t : ℕ). slice_index_or v.opened u.number 0 + patience ≤ t) (sym same.until) timely);
   };
   exchanging = e;
   held = λ row is. u.held row (subst (λ (k : ℕ). listed k row) same.conn is);
 }
+
+pub goes_on_only : (v w : DialMeaning) (slot number : ℕ) → GoesOnIn v w slot → v.slots slot ≡ Some number → OnlyStream v w number
+goes_on_only v w slot number only is = record { streams = only.streams number is; none = only.none }
 
 -- ---- all of them
 
@@ -90,7 +81,7 @@ pub tied_stays : (patience : ℕ) (v w : DialMeaning) (asked : List Asked) (exch
 tied_stays patience v w asked exchanges listed stays t = record {
   each = λ slot x here.
       let u = t.each slot x here in
-      way_at patience v w asked asked listed listed slot x u (slots slot) (subst (λ (cs : List Connection). u.number < length cs) (sym stays.streams) u.exchanging.sending.live.accepted)
+      way_at patience v w asked asked listed listed slot x u (slots slot) (subst (λ (cs : List Connection). u.number < length cs) (sym stays.streams) u.live.accepted)
       (ap (λ (cs : List Connection). connection_at cs u.number) stays.streams) (ap (λ (os : List ℕ). slice_index_or os u.number 0) stays.none.opened) refl (λ row is. is);
   apart = λ s r x y hs hr same. t.apart s r x y hs hr (sym (slots s) ∙ same ∙ slots r);
 }
@@ -110,7 +101,7 @@ module _ (patience : ℕ) (v w : DialMeaning) (asked : List Asked) (old new : Li
   pub other_way : (now : Listing RelayTalk) (s : ℕ) (y : Exchange) → s ≢ slot → exchange_in new s ≡ Some y → ((row : Option (Client RelayTalk)) → now y.conn row → listed y.conn row) → IsUnderWay w patience asked now s y
   other_way now s y other e rows =
       let u = t.each s y (was s y other e) in
-      way_at patience v w asked asked listed now s y u (slots_same s) (subst (λ (n : ℕ). u.number < n) (sym long) u.exchanging.sending.live.accepted) (at u.number (apart u)) (ap (λ (os : List ℕ). slice_index_or os u.number 0) only.none.opened) refl rows
+      way_at patience v w asked asked listed now s y u (slots_same s) (subst (λ (n : ℕ). u.number < n) (sym long) u.live.accepted) (at u.number (apart u)) (ap (λ (os : List ℕ). slice_index_or os u.number 0) only.none.opened) refl rows
     where
       long : length w.streams ≡ length v.streams
       long = ap (λ (cs : List Connection). length cs) only.streams ∙ length-set v.streams number (connection_at w.streams number)
@@ -172,7 +163,7 @@ module _ (patience : ℕ) (v w : DialMeaning) (asked : List Asked) (old new : Li
           let b : Awaits (asker_in asked mine.number) g = mine.held (Some g) row in
           let owners : owner_of (asker_in asked) u.number ≡ owner_of (asker_in asked) mine.number = λ i. ((a.conn ∙ sym b.conn) i, (a.number ∙ sym b.number) i) in
           let numbers : u.number ≡ mine.number =
-          once u.number mine.number (subst (λ (n : ℕ). u.number < n) (sym count) u.exchanging.sending.live.accepted) (subst (λ (n : ℕ). mine.number < n) (sym count) mine.exchanging.sending.live.accepted) owners in
+          once u.number mine.number (subst (λ (n : ℕ). u.number < n) (sym count) u.live.accepted) (subst (λ (n : ℕ). mine.number < n) (sym count) mine.live.accepted) owners in
           elsewhere s y e (t.apart s slot y x (was s y (elsewhere s y e) e) here (u.is ∙ ap (λ (n : ℕ). Some n) numbers ∙ sym mine.is))
 
 -- ---- one more
@@ -207,15 +198,16 @@ tied_more patience v w asked old new listed now a g t count hands timed waits he
     new_way = record {
       number = length v.streams;
       is = more.number;
+      live = hands.opens.live;
       its = subst (λ (b : Asked). IsOf b (slice_index_or w.opened (length v.streams) 0) patience x) (sym asker_last) hands.opens.its;
-      exchanging = subst (λ (b : Asked). IsExchanging w (length v.streams) x b.body) (sym asker_last) hands.opens.exchanging;
+      exchanging = subst (λ (b : Asked). IsExchanging (connection_at w.streams (length v.streams)) x b.body) (sym asker_last) hands.opens.exchanging;
       held = λ row is. subst (λ (b : Asked). IsFor b row) (sym asker_last) (for_row row (here row (subst (λ (k : ℕ). now k row) (sym hands.opens.its.conn) is)));
     }
 
     old_way : (s : ℕ) (y : Exchange) → s ≢ slot → exchange_in new s ≡ Some y → IsUnderWay w patience (asked ++ a ∷ []) now s y
     old_way s y other e =
         let u = t.tied.each s y (was s y other e) in
-        let within = u.exchanging.sending.live.accepted in
+        let within = u.live.accepted in
         let m = more.count in
         way_at patience v w asked (asked ++ a ∷ []) listed now s y u (more.others s other) (omega (arith, within, m)) (more.streams u.number within) (more.opened u.number (subst (λ (k : ℕ). u.number < k) (sym timed) within))
         (push_before asked a nobody u.number (subst (λ (k : ℕ). u.number < k) (sym count) within)) (λ row is. others y.conn row (t.others s y (was s y other e)) is)
@@ -230,7 +222,7 @@ tied_more patience v w asked old new listed now a g t count hands timed waits he
     elsewhere : (s : ℕ) (y : Exchange) → s ≢ slot → exchange_in new s ≡ Some y → w.slots s ≡ w.slots slot → ⊥
     elsewhere s y other e same =
         let u = t.tied.each s y (was s y other e) in
-        let within = u.exchanging.sending.live.accepted in
+        let within = u.live.accepted in
         let n : u.number ≡ length v.streams = same_some (w.slots s) u.number (length v.streams) (more.others s other ∙ u.is) (same ∙ more.number) in
         absurd (omega (arith, within, n))
 

@@ -61,12 +61,12 @@ pub tied_new : (m : DialMeaning) (patience : ℕ) (asked : List Asked) (given : 
     → HaveAsked asked listed accepted → ((k : ℕ) (s : Option (Client RelayTalk)) → now k s → listed k s) → IsTiedBut m patience asked exchanges now accepted
 tied_new m patience asked given exchanges listed now accepted t kept h same = record {
   tied = record {
-    each = λ slot x here. let u = t.each slot x here in record { number = u.number; is = u.is; its = u.its; exchanging = u.exchanging; held = λ row is. u.held row (same x.conn row is) };
+    each = λ slot x here. let u = t.each slot x here in record { number = u.number; is = u.is; live = u.live; its = u.its; exchanging = u.exchanging; held = λ row is. u.held row (same x.conn row is) };
     apart = t.apart;
   };
   others = λ slot x here is.
       let u = t.each slot x here in
-      let came : (asker_in asked u.number).conn < accepted = h.came u.number (subst (λ (n : ℕ). u.number < n) (sym kept.count) u.exchanging.sending.live.accepted) in
+      let came : (asker_in asked u.number).conn < accepted = h.came u.number (subst (λ (n : ℕ). u.number < n) (sym kept.count) u.live.accepted) in
       lt_irrefl accepted (subst (λ (n : ℕ). n < accepted) (u.its.conn ∙ is) came);
 }
 
@@ -76,7 +76,7 @@ pub tied_again : (m : DialMeaning) (patience : ℕ) (asked : List Asked) (exchan
 tied_again m patience asked exchanges listed now k t others = record {
   each = λ slot x here.
       let u = t.tied.each slot x here in
-      record { number = u.number; is = u.is; its = u.its; exchanging = u.exchanging; held = λ row is. u.held row (others x.conn row (t.others slot x here) is) };
+      record { number = u.number; is = u.is; live = u.live; its = u.its; exchanging = u.exchanging; held = λ row is. u.held row (others x.conn row (t.others slot x here) is) };
   apart = t.tied.apart;
 }
 
@@ -87,7 +87,7 @@ tied_out m patience asked exchanges listed now k g t row free beside = record {
   tied = record {
     each = λ slot x here.
         let u = t.each slot x here in
-        record { number = u.number; is = u.is; its = u.its; exchanging = u.exchanging; held = λ s is. u.held s (beside x.conn s (apart slot x here) is) };
+        record { number = u.number; is = u.is; live = u.live; its = u.its; exchanging = u.exchanging; held = λ s is. u.held s (beside x.conn s (apart slot x here) is) };
     apart = t.apart;
   };
   others = apart;

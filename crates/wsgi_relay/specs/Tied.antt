@@ -1,16 +1,16 @@
 -- What ties the clients that wait for an application server to the streams on which it answers.
-use Rattle.std.specs.Prelude.{◌≡◌, ◌≢◌, ℕ, ◌+◌, ◌-◌, ◌^◌, ◌<◌, ◌≤◌, true, false, List, [], ◌++◌, length, slice_index_or, Option, Some, None}
+use Rattle.std.specs.Prelude.{◌≡◌, ◌≢◌, ◌⊎◌, ℕ, ◌+◌, ◌-◌, ◌^◌, ◌<◌, ◌≤◌, true, List, ◌++◌, length, slice_index_or, Option, Some, None}
 use Rattle.relay_core.specs.Message.{scgi_message}
-use Rattle.relay_core.specs.Replies.{IsReading}
 use Rattle.relay_core.specs.declared.reader.Far.{Far}
-use Rattle.stream_net.specs.Net.{connection_at}
-use Rattle.stream_dial.specs.Dials.{DialMeaning}
+use Rattle.relay_core.specs.declared.reader.Far.TheVariants.{Late}
+use Rattle.stream_net.specs.Net.{IsLive, connection_at}
+use Rattle.stream_dial.specs.Dials.{DialMeaning, net_of}
 use Rattle.stream_server.specs.Keeping.{Listing}
 use Rattle.stream_server.specs.declared.client.Client.{Client}
 use Rattle.stream_server.specs.Owning.{AreOwned, AreOwnedBut, OwnOnce}
 use Rattle.wsgi_core.specs.Steps.{answered_of}
 use Rattle.wsgi_relay.specs.Accounts.{IsAsked, asker_in}
-use Rattle.wsgi_relay.specs.Exchanging.{HasCome, IsExchanging}
+use Rattle.wsgi_relay.specs.Exchanging.{HasShown, IsBegun, IsExchanging, OfSlot}
 use Rattle.wsgi_relay.specs.Relaying.{Asked, Given, Givings, HasStream, IsSent, is_for_head, owner_of}
 use Rattle.wsgi_relay.specs.Talks.{holds_for, next_of, request_of}
 use Rattle.wsgi_relay.specs.declared.exchange.Exchange.{Exchange}
@@ -69,22 +69,19 @@ pub record IsOf (a : Asked) (opened patience : ℕ) (x : Exchange) : Type 0 wher
   pub timely : x.until < 2 ^ 64 - 1 → opened + patience ≤ x.until
 
 -- the exchange is that of this request, and nothing went over its stream yet
-pub record IsBegun (a : Asked) (x : Exchange) : Type 0 where
+pub record IsMadeFor (a : Asked) (x : Exchange) : Type 0 where
   pub conn : a.conn ≡ x.conn
-  pub message : x.head ++ a.body ≡ scgi_message a.environ a.body
-  pub short : length x.head + length a.body < 2 ^ 64
   pub is_head : x.reader.is_head ≡ is_for_head a
-  pub unsent : x.sent ≡ 0
-  pub unread : IsReading [] x.reader
-  pub unfailed : x.failed ≡ false
+  pub begun : IsBegun x a.environ (length a.body)
 
 -- The exchange goes over the stream in its slot, which was opened for just its request, and the client of that is held
 -- for it.
 pub record IsUnderWay (m : DialMeaning) (patience : ℕ) (asked : List Asked) (listed : Listing RelayTalk) (slot : ℕ) (x : Exchange) : Type 0 where
   pub number : ℕ
   pub is : m.slots slot ≡ Some number
+  pub live : IsLive (net_of m.streams m.moment) number
   pub its : IsOf (asker_in asked number) (slice_index_or m.opened number 0) patience x
-  pub exchanging : IsExchanging m number x (asker_in asked number).body
+  pub exchanging : IsExchanging (connection_at m.streams number) x (asker_in asked number).body
   pub held : (row : Option (Client RelayTalk)) → listed x.conn row → IsFor (asker_in asked number) row
 
 -- one stream more is there, of the next number, in this slot, in which none was open; the others are as they were
@@ -100,8 +97,9 @@ pub record HasOneMore (v w : DialMeaning) (slot : ℕ) : Type 0 where
 -- it was opened for this request, and the exchange goes over it
 pub record OpensFor (v w : DialMeaning) (patience : ℕ) (a : Asked) (slot : ℕ) (x : Exchange) : Type 0 where
   pub more : HasOneMore v w slot
+  pub live : IsLive (net_of w.streams w.moment) (length v.streams)
   pub its : IsOf a (slice_index_or w.opened (length v.streams) 0) patience x
-  pub exchanging : IsExchanging w (length v.streams) x a.body
+  pub exchanging : IsExchanging (connection_at w.streams (length v.streams)) x a.body
 
 -- and is put beside the others
 pub record HandsOn (v w : DialMeaning) (patience : ℕ) (a : Asked) (old new : List (Option Exchange)) : Type 0 where
@@ -120,8 +118,14 @@ pub record IsTiedBut (m : DialMeaning) (patience : ℕ) (asked : List Asked) (ex
   pub tied : IsTied m patience asked exchanges listed
   pub others : (slot : ℕ) (x : Exchange) → exchange_in exchanges slot ≡ Some x → x.conn ≢ one
 
--- the exchange in this slot has come so far
+-- the time of the exchange is over
+pub record IsLate (far : Far) (m : DialMeaning) (x : Exchange) : Type 0 where
+  pub late : far ≡ Late
+  pub comes : x.until < 2 ^ 64 - 1
+  pub over : x.until ≤ m.moment
+
+-- the exchange in this slot has come so far: its stream shows that, or its time is over
 pub record IsOver (m : DialMeaning) (exchanges : List (Option Exchange)) (slot : ℕ) (far : Far) : Type 0 where
   pub exchange : Exchange
   pub here : exchange_in exchanges slot ≡ Some exchange
-  pub come : (number : ℕ) → m.slots slot ≡ Some number → HasCome far m number exchange
+  pub come : OfSlot m slot (λ s. HasShown far s exchange) ⊎ IsLate far m exchange

@@ -4,16 +4,17 @@ ghost use Rattle.std.specs.List.{list_all};
 ghost use Rattle.http_messages.specs.Environ.{pair_value};
 ghost use Rattle.scgi_core.specs.Block.{is_value};
 ghost use Rattle.scgi_core.specs.Laws.{is_plain};
+ghost use Rattle.stream_net.specs.Net.{connection_at};
 ghost use Rattle.stream_server.specs.Protocols.{Apps};
 ghost use Rattle.stream_server.specs.Services.{BeginsAgain, Polls, TiesAfter};
 ghost use Rattle.stream_server.specs.Tables.{IsListed};
 ghost use Rattle.wsgi_relay.specs.Accounts.{AllAgree, IsAskedMore, asked_on, asker_in, given_in};
 ghost use Rattle.wsgi_relay.specs.Asking.{CanBeHanded, HasAsked, WantsRelay};
-ghost use Rattle.wsgi_relay.specs.Exchanging.{HasCome, IsSame, IsSending, OnlyStream};
+ghost use Rattle.wsgi_relay.specs.Exchanging.{GoesOnIn, HasShown, IsSameExchange, IsSent, OfSlot};
 ghost use Rattle.wsgi_relay.specs.Giving.{Gives};
 ghost use Rattle.wsgi_relay.specs.Laws.{relay_app};
 ghost use Rattle.wsgi_relay.specs.Talks.{rank_of, relay_protocol};
-ghost use Rattle.wsgi_relay.specs.Tied.{HandsOn, HaveAsked, HaveAskedBut, HaveAskedOnce, IsBegun, IsKept, IsOver, IsTied, IsTiedBut, IsUnderWay, OpensFor, Puts, exchange_in};
+ghost use Rattle.wsgi_relay.specs.Tied.{HandsOn, HaveAsked, HaveAskedBut, HaveAskedOnce, IsKept, IsMadeFor, IsOver, IsTied, IsTiedBut, IsUnderWay, OpensFor, Puts, exchange_in};
 
 use crate::accounts::{AskedOn, Askers, GivenOn, Replies};
 use crate::exchange::{Exchange, advance, close_exchange, send};
@@ -35,6 +36,15 @@ const MOST_TURNS: u32 = 256;
 
 /// How many bytes one read of a stream brings at most.
 const MOST_READ: usize = 16384;
+
+/// An application server.
+#[derive(Drop)]
+pub struct Upstream<D> {
+    /// The streams towards it.
+    pub dial: D,
+    /// How long a reply may take, in milliseconds.
+    pub patience: u64,
+}
 
 /// When the time of an exchange is over.
 #[derive(Clone, Copy, Drop)]
@@ -62,8 +72,6 @@ enum Turn {
 #[derive(Drop)]
 pub struct Relays {
     alloc: Global,
-    // How long a reply may take, in milliseconds.
-    patience: u64,
     // By the slots of their streams.
     exchanges: Vec<Option<Exchange>>,
     // How many these are.
@@ -146,16 +154,14 @@ fn give(client: Client<RelayTalk>, reply: Reply, deadline: u64) -> Polled<RelayT
 }
 
 impl Relays {
-    /// No requests. A reply may take so many milliseconds.
-    pub fn new(alloc: Global, patience: u64) -> Relays
-        ensures patience { result.patience ≡ patience }
+    /// No requests.
+    pub fn new(alloc: Global) -> Relays
         ensures none { result.exchanges.items ≡ [] }
         ensures none_asked { result.askers.list ≡ [] }
         ensures none_given { result.replies.list ≡ [] }
     {
         Relays {
             alloc,
-            patience,
             exchanges: Vec::new(alloc),
             live: 0,
             due: VecDeque::new(alloc),
@@ -171,7 +177,6 @@ impl Relays {
         ensures exchanges { self.new.exchanges.items ≡ self.old.exchanges.items }
         ensures askers { self.new.askers.list ≡ self.old.askers.list }
         ensures replies { self.new.replies.list ≡ self.old.replies.list }
-        ensures patience { self.new.patience ≡ self.old.patience }
         ensures late { IfSome result (λ slot. (x : Exchange) × (exchange_in self.new.exchanges.items slot ≡ Some x) × (x.until < 2 ^ 64 - 1) × (x.until ≤ now)) }
     {
         for _ in 0..self.due.len() {
@@ -193,45 +198,45 @@ impl Relays {
     /// Opens a stream for a request, and sends what goes at once. After an `Err` memory ran out.
     fn open_stream<D: Dial>(
         &mut self,
-        dial: &mut D,
+        upstream: &mut Upstream<D>,
         asked: &AskedOn,
         exchange: &mut Exchange,
         body: &[u8],
     ) -> Result<usize, AllocError>
         requires plain { list_all is_plain (asked_on asked.now.conn asked.now.session.now).environ ≡ true }
         requires body { body.now ≡ (asked_on asked.now.conn asked.now.session.now).body }
-        requires begun { IsBegun (asked_on asked.now.conn asked.now.session.now) exchange.old }
-        requires kept { IsKept self.old.patience (D.meaning dial.old) self.old.askers.list (given_in self.old.replies.list) }
-        ensures kept { IsKept self.new.patience (D.meaning dial.new) self.new.askers.list (given_in self.new.replies.list) }
+        requires begun { IsMadeFor (asked_on asked.now.conn asked.now.session.now) exchange.old }
+        requires kept { IsKept upstream.old.patience (D.meaning upstream.old.dial) self.old.askers.list (given_in self.old.replies.list) }
+        ensures kept { IsKept upstream.new.patience (D.meaning upstream.new.dial) self.new.askers.list (given_in self.new.replies.list) }
         ensures askers { IsAskedMore self.old.askers.list self.new.askers.list (asked_on asked.now.conn asked.now.session.now) }
         ensures adds { OnOk result (self.new.askers.list ≡ self.old.askers.list ++ asked_on asked.now.conn asked.now.session.now ∷ []) }
-        ensures opens { IfOk result (λ slot. OpensFor (D.meaning dial.old) (D.meaning dial.new) self.old.patience (asked_on asked.now.conn asked.now.session.now) slot exchange.new) }
+        ensures opens { IfOk result (λ slot. OpensFor (D.meaning upstream.old.dial) (D.meaning upstream.new.dial) upstream.old.patience (asked_on asked.now.conn asked.now.session.now) slot exchange.new) }
         ensures replies { self.new.replies.list ≡ self.old.replies.list }
-        ensures patience { self.new.patience ≡ self.old.patience }
+        ensures patience { upstream.new.patience ≡ upstream.old.patience }
         ensures exchanges { self.new.exchanges.items ≡ self.old.exchanges.items }
     {
-        let slot = dial.dial()?;
+        let slot = upstream.dial.dial()?;
         self.askers = self.askers.and(asked);
-        exchange.until = dial.now().saturating_add(self.patience);
-        send(dial, slot, exchange, body)?;
+        exchange.until = upstream.dial.now().saturating_add(upstream.patience);
+        send(&mut upstream.dial, slot, exchange, body)?;
         Ok(slot)
     }
 
     /// Hands the request of a session on. After an `Err` memory ran out.
     fn hand_on<D: Dial>(
         &mut self,
-        dial: &mut D,
+        upstream: &mut Upstream<D>,
         conn: u32,
         session: &Session,
     ) -> Result<(), AllocError>
         requires wants { CanBeHanded session.now }
-        requires kept { IsKept self.old.patience (D.meaning dial.old) self.old.askers.list (given_in self.old.replies.list) }
-        ensures kept { IsKept self.new.patience (D.meaning dial.new) self.new.askers.list (given_in self.new.replies.list) }
+        requires kept { IsKept upstream.old.patience (D.meaning upstream.old.dial) self.old.askers.list (given_in self.old.replies.list) }
+        ensures kept { IsKept upstream.new.patience (D.meaning upstream.new.dial) self.new.askers.list (given_in self.new.replies.list) }
         ensures askers { IsAskedMore self.old.askers.list self.new.askers.list (asked_on conn session.now) }
         ensures adds { OnOk result (self.new.askers.list ≡ self.old.askers.list ++ asked_on conn session.now ∷ []) }
-        ensures hands_on { OnOk result (HandsOn (D.meaning dial.old) (D.meaning dial.new) self.old.patience (asked_on conn session.now) self.old.exchanges.items self.new.exchanges.items) }
+        ensures hands_on { OnOk result (HandsOn (D.meaning upstream.old.dial) (D.meaning upstream.new.dial) upstream.old.patience (asked_on conn session.now) self.old.exchanges.items self.new.exchanges.items) }
         ensures replies { self.new.replies.list ≡ self.old.replies.list }
-        ensures patience { self.new.patience ≡ self.old.patience }
+        ensures patience { upstream.new.patience ≡ upstream.old.patience }
     {
         let Some((environ, body)) = session.asked() else {
             // The requires says that a request waits.
@@ -244,7 +249,7 @@ impl Relays {
         };
         let mut exchange = exchange;
         let asked = AskedOn { conn, session };
-        let slot = self.open_stream(dial, &asked, &mut exchange, body)?;
+        let slot = self.open_stream(upstream, &asked, &mut exchange, body)?;
         let due = Due {
             until: exchange.until,
             slot,
@@ -261,17 +266,17 @@ impl Relays {
     /// `Err` memory ran out.
     fn go_on<D: Dial>(
         &self,
-        dial: &mut D,
+        upstream: &mut Upstream<D>,
         table: &ClientTable<RelayTalk>,
         slot: usize,
         exchange: &mut Exchange,
     ) -> Result<Option<Far>, AllocError>
-        requires { IsUnderWay (D.meaning dial.old) self.now.patience self.now.askers.list (IsListed table.now) slot exchange.old }
-        ensures only { (number : ℕ) → (D.meaning dial.old).slots slot ≡ Some number → OnlyStream (D.meaning dial.old) (D.meaning dial.new) number }
-        ensures same { IsSame exchange.old exchange.new }
-        ensures sending { (number : ℕ) → (D.meaning dial.old).slots slot ≡ Some number → IsSending (D.meaning dial.new) number exchange.new.sent (exchange.new.head ++ (asker_in self.now.askers.list number).body) }
-        ensures way { OnOk result (IsUnderWay (D.meaning dial.new) self.now.patience self.now.askers.list (IsListed table.now) slot exchange.new) }
-        ensures come { IfOk result (λ far. IfSome far (λ f. (number : ℕ) → (D.meaning dial.old).slots slot ≡ Some number → HasCome f (D.meaning dial.new) number exchange.new)) }
+        requires { IsUnderWay (D.meaning upstream.old.dial) upstream.old.patience self.now.askers.list (IsListed table.now) slot exchange.old }
+        ensures only { GoesOnIn (D.meaning upstream.old.dial) (D.meaning upstream.new.dial) slot }
+        ensures same { IsSameExchange exchange.old exchange.new }
+        ensures sent { (number : ℕ) → (D.meaning upstream.new.dial).slots slot ≡ Some number → IsSent (connection_at (D.meaning upstream.new.dial).streams number) exchange.new (asker_in self.now.askers.list number).body }
+        ensures way { OnOk result (IsUnderWay (D.meaning upstream.new.dial) upstream.new.patience self.now.askers.list (IsListed table.now) slot exchange.new) }
+        ensures come { (far : Far) → result ≡ Ok (Some far) → OfSlot (D.meaning upstream.new.dial) slot (λ s. HasShown far s exchange.new) }
     {
         let Some(client) = table.get(exchange.conn) else {
             // A connection that waits for a reply is listed.
@@ -282,24 +287,24 @@ impl Relays {
             unreachable!()
         };
         let mut buffer = [0; MOST_READ];
-        advance(dial, slot, exchange, body, &mut buffer)
+        advance(&mut upstream.dial, slot, exchange, body, &mut buffer)
     }
 
     /// Goes on with a stream of which there is news.
-    fn turn<D: Dial>(&mut self, dial: &mut D, table: &ClientTable<RelayTalk>) -> Turn
-        requires tied { IsTied (D.meaning dial.old) self.old.patience self.old.askers.list self.old.exchanges.items (IsListed table.now) }
-        requires kept { IsKept self.old.patience (D.meaning dial.old) self.old.askers.list (given_in self.old.replies.list) }
-        ensures kept { IsKept self.new.patience (D.meaning dial.new) self.new.askers.list (given_in self.new.replies.list) }
-        ensures tied { result ≢ Turn.Memory → IsTied (D.meaning dial.new) self.new.patience self.new.askers.list self.new.exchanges.items (IsListed table.now) }
-        ensures over { (slot : ℕ) (far : Far) → result ≡ Turn.Over slot far → IsOver (D.meaning dial.new) self.new.exchanges.items slot far }
+    fn turn<D: Dial>(&mut self, upstream: &mut Upstream<D>, table: &ClientTable<RelayTalk>) -> Turn
+        requires tied { IsTied (D.meaning upstream.old.dial) upstream.old.patience self.old.askers.list self.old.exchanges.items (IsListed table.now) }
+        requires kept { IsKept upstream.old.patience (D.meaning upstream.old.dial) self.old.askers.list (given_in self.old.replies.list) }
+        ensures kept { IsKept upstream.new.patience (D.meaning upstream.new.dial) self.new.askers.list (given_in self.new.replies.list) }
+        ensures tied { result ≢ Turn.Memory → IsTied (D.meaning upstream.new.dial) upstream.new.patience self.new.askers.list self.new.exchanges.items (IsListed table.now) }
+        ensures over { (slot : ℕ) (far : Far) → result ≡ Turn.Over slot far → IsOver (D.meaning upstream.new.dial) self.new.exchanges.items slot far }
         ensures askers { self.new.askers.list ≡ self.old.askers.list }
         ensures replies { self.new.replies.list ≡ self.old.replies.list }
-        ensures patience { self.new.patience ≡ self.old.patience }
+        ensures patience { upstream.new.patience ≡ upstream.old.patience }
     {
-        if let Some(slot) = self.late_slot(dial.now()) {
+        if let Some(slot) = self.late_slot(upstream.dial.now()) {
             return Turn::Over(slot, Far::Late);
         }
-        let Some(slot) = dial.next() else {
+        let Some(slot) = upstream.dial.next() else {
             self.stirred = false;
             return Turn::Rests;
         };
@@ -307,7 +312,7 @@ impl Relays {
             return Turn::GoesOn;
         };
         let mut exchange = exchange;
-        let far = self.go_on(dial, table, slot, &mut exchange);
+        let far = self.go_on(upstream, table, slot, &mut exchange);
         put(&mut self.exchanges, slot, exchange);
         match far {
             Ok(None) => Turn::GoesOn,
@@ -319,21 +324,21 @@ impl Relays {
     /// Ends the exchange in a slot, and gives the reply to the client that waits for it.
     fn release<D: Dial>(
         &mut self,
-        dial: &mut D,
+        upstream: &mut Upstream<D>,
         table: &mut ClientTable<RelayTalk>,
         slot: usize,
         far: Far,
         deadline: u64,
     ) -> Polled<RelayTalk>
-        requires tied { IsTied (D.meaning dial.old) self.old.patience self.old.askers.list self.old.exchanges.items (IsListed table.old) }
-        requires kept { IsKept self.old.patience (D.meaning dial.old) self.old.askers.list (given_in self.old.replies.list) }
+        requires tied { IsTied (D.meaning upstream.old.dial) upstream.old.patience self.old.askers.list self.old.exchanges.items (IsListed table.old) }
+        requires kept { IsKept upstream.old.patience (D.meaning upstream.old.dial) self.old.askers.list (given_in self.old.replies.list) }
         requires once { HaveAskedOnce self.old.askers.list }
-        requires over { IsOver (D.meaning dial.old) self.old.exchanges.items slot far }
+        requires over { IsOver (D.meaning upstream.old.dial) self.old.exchanges.items slot far }
         ensures polled { Polls result relay_protocol (AllAgree (given_in self.new.replies.list)) table.old table.new }
         ensures again { BeginsAgain result deadline }
-        ensures kept { IsKept self.new.patience (D.meaning dial.new) self.new.askers.list (given_in self.new.replies.list) }
+        ensures kept { IsKept upstream.new.patience (D.meaning upstream.new.dial) self.new.askers.list (given_in self.new.replies.list) }
         ensures tied { (accepted : ℕ) → HaveAsked self.old.askers.list (IsListed table.old) accepted
-            → TiesAfter result ⊥ (λ client. IsTiedBut (D.meaning dial.new) self.new.patience self.new.askers.list self.new.exchanges.items (IsListed table.new) client.conn
+            → TiesAfter result ⊥ (λ client. IsTiedBut (D.meaning upstream.new.dial) upstream.new.patience self.new.askers.list self.new.exchanges.items (IsListed table.new) client.conn
             × HaveAskedBut self.new.askers.list (IsListed table.new) accepted client.conn (rank_of client.talk)) }
         ensures fits { (apps : Apps) → AllAgree (given_in self.new.replies.list) apps → AllAgree (given_in self.old.replies.list) apps }
         ensures askers { self.new.askers.list ≡ self.old.askers.list }
@@ -344,7 +349,7 @@ impl Relays {
         };
         self.live = self.live.saturating_sub(1);
         let conn = exchange.conn;
-        let Ok(reply) = close_exchange(dial, slot, exchange, far) else {
+        let Ok(reply) = close_exchange(&mut upstream.dial, slot, exchange, far) else {
             return Polled::Memory;
         };
         let Some(client) = table.remove(conn) else {
@@ -360,26 +365,27 @@ impl Relays {
     }
 }
 
-impl<D: Dial> Service<RelayTalk, D> for Relays {
+impl<D: Dial> Service<RelayTalk, Upstream<D>> for Relays {
     ghost protocol = { relay_protocol };
 
     ghost rank = { rank_of };
 
-    ghost fits = { λ relays dial apps. AllAgree (given_in relays.replies.list) apps };
+    ghost fits = { λ relays upstream apps. AllAgree (given_in relays.replies.list) apps };
 
-    ghost one = { λ relays dial conn. relay_app (given_in relays.replies.list) conn };
+    ghost one = { λ relays upstream conn. relay_app (given_in relays.replies.list) conn };
 
-    ghost tied = { λ relays dial table accepted. IsTied (D.meaning dial) relays.patience relays.askers.list relays.exchanges.items (IsListed table) × IsKept relays.patience (D.meaning dial) relays.askers.list (given_in relays.replies.list) × HaveAsked relays.askers.list (IsListed table) accepted };
+    ghost tied = { λ relays upstream table accepted. IsTied (D.meaning upstream.dial) upstream.patience relays.askers.list relays.exchanges.items (IsListed table) × IsKept upstream.patience (D.meaning upstream.dial) relays.askers.list (given_in relays.replies.list) × HaveAsked relays.askers.list (IsListed table) accepted };
 
-    ghost tied_but = { λ relays dial table accepted conn low. IsTiedBut (D.meaning dial) relays.patience relays.askers.list relays.exchanges.items (IsListed table) conn × IsKept relays.patience (D.meaning dial) relays.askers.list (given_in relays.replies.list) × HaveAskedBut relays.askers.list (IsListed table) accepted conn low };
+    ghost tied_but = { λ relays upstream table accepted conn low. IsTiedBut (D.meaning upstream.dial) upstream.patience relays.askers.list relays.exchanges.items (IsListed table) conn × IsKept upstream.patience (D.meaning upstream.dial) relays.askers.list (given_in relays.replies.list) × HaveAskedBut relays.askers.list (IsListed table) accepted conn low };
 
-    ghost sound = { λ relays dial. IsKept relays.patience (D.meaning dial) relays.askers.list (given_in relays.replies.list) × HaveAskedOnce relays.askers.list };
+    ghost sound = { λ relays upstream. IsKept upstream.patience (D.meaning upstream.dial) relays.askers.list (given_in relays.replies.list) × HaveAskedOnce relays.askers.list };
 
     ghost wants = { WantsRelay };
 
-    ghost spent = { λ relays dial. ⊥ };
+    ghost spent = { λ relays upstream. ⊥ };
 
-    ghost workers = { λ dial. 0 };
+    // How long a reply may take stays the same, as workers do.
+    ghost workers = { λ upstream. upstream.patience };
 
     fn begin(&self, port: u16) -> RelayTalk {
         RelayTalk {
@@ -429,7 +435,11 @@ impl<D: Dial> Service<RelayTalk, D> for Relays {
     }
 
     /// Hands the request of the client on, over a stream of its own.
-    fn hold(&mut self, world: &mut D, client: &mut Client<RelayTalk>) -> Result<(), HoldRefusal> {
+    fn hold(
+        &mut self,
+        world: &mut Upstream<D>,
+        client: &mut Client<RelayTalk>,
+    ) -> Result<(), HoldRefusal> {
         if self
             .hand_on(world, client.conn, &client.talk.session)
             .is_err()
@@ -444,7 +454,7 @@ impl<D: Dial> Service<RelayTalk, D> for Relays {
     /// Goes on with the streams of which there is news until the exchange of one is over.
     fn poll(
         &mut self,
-        world: &mut D,
+        world: &mut Upstream<D>,
         table: &mut ClientTable<RelayTalk>,
         deadline: u64,
     ) -> Polled<RelayTalk> {
@@ -488,11 +498,11 @@ impl<D: Dial> Service<RelayTalk, D> for Relays {
 
     ghost lawful = { laws.relay_lawful };
 
-    ghost fits_one = { λ relays dial conn. laws.relay_agrees (given_in relays.replies.list) conn };
+    ghost fits_one = { λ relays upstream conn. laws.relay_agrees (given_in relays.replies.list) conn };
 
-    ghost tied_new = { λ relays dial table now accepted tied same. (laws.tied_new (D.meaning dial) relays.patience relays.askers.list (given_in relays.replies.list) relays.exchanges.items (IsListed table) (IsListed now) accepted tied.0 tied.1 tied.2 same, tied.1, laws.asked_new relays.askers.list (IsListed table) (IsListed now) accepted tied.2 same) };
+    ghost tied_new = { λ relays upstream table now accepted tied same. (laws.tied_new (D.meaning upstream.dial) upstream.patience relays.askers.list (given_in relays.replies.list) relays.exchanges.items (IsListed table) (IsListed now) accepted tied.0 tied.1 tied.2 same, tied.1, laws.asked_new relays.askers.list (IsListed table) (IsListed now) accepted tied.2 same) };
 
-    ghost tied_again = { λ relays dial table now accepted conn low tied beside from. (laws.tied_again (D.meaning dial) relays.patience relays.askers.list relays.exchanges.items (IsListed table) (IsListed now) conn tied.0 beside, tied.1, laws.asked_again relays.askers.list (IsListed table) (IsListed now) accepted conn low tied.2 beside from) };
+    ghost tied_again = { λ relays upstream table now accepted conn low tied beside from. (laws.tied_again (D.meaning upstream.dial) upstream.patience relays.askers.list relays.exchanges.items (IsListed table) (IsListed now) conn tied.0 beside, tied.1, laws.asked_again relays.askers.list (IsListed table) (IsListed now) accepted conn low tied.2 beside from) };
 
-    ghost tied_out = { λ relays dial table now accepted conn client tied listed free beside. (laws.tied_out (D.meaning dial) relays.patience relays.askers.list relays.exchanges.items (IsListed table) (IsListed now) conn client tied.0 listed free beside, tied.1, laws.asked_out relays.askers.list (IsListed table) (IsListed now) accepted conn client tied.2 listed free beside) };
+    ghost tied_out = { λ relays upstream table now accepted conn client tied listed free beside. (laws.tied_out (D.meaning upstream.dial) upstream.patience relays.askers.list relays.exchanges.items (IsListed table) (IsListed now) conn client tied.0 listed free beside, tied.1, laws.asked_out relays.askers.list (IsListed table) (IsListed now) accepted conn client tied.2 listed free beside) };
 }

@@ -9,7 +9,7 @@ ghost use Rattle.stream_server.specs.Ranges.{IsInRange};
 ghost use Rattle.wsgi_relay.specs.Relaying.{HasRelayed};
 
 use crate::relay_talk::RelayTalk;
-use crate::relays::Relays;
+use crate::relays::{Relays, Upstream};
 use std::alloc::Global;
 use std::sync::Wait;
 use stream_dial::Dial;
@@ -49,7 +49,7 @@ fn end_of(end: ServiceEnd) -> RelayEnd
 /// its environ is answered 400 at once.
 ///
 /// What is no reply, one that breaks off, and a server that can't be reached are answered 502, and a reply that isn't
-/// there after so many milliseconds 504. No request is handed on twice. The connections go on after these answers as after
+/// there within the patience 504. No request is handed on twice. The connections go on after these answers as after
 /// others.
 ///
 /// After `Listener` and `Memory` the connections and the streams that are open stay open.
@@ -57,17 +57,17 @@ pub fn serve_relay<N: Net, D: Dial, H: Wait>(
     rt: &H,
     alloc: Global,
     net: &mut N,
-    dial: &mut D,
-    patience: u64,
+    upstream: &mut Upstream<D>,
     terms: Terms,
 ) -> RelayEnd
     requires listens { IsSome (N.meaning net.old).listens }
     requires fresh { IsFresh (N.meaning net.old) }
     requires in_range { IsInRange terms.limits }
-    requires opened_none { HasOpenedNone (D.meaning dial.old) }
+    requires opened_none { HasOpenedNone (D.meaning upstream.old.dial) }
     // Each connection by itself, in whichever order the application server answers. Each request that was answered has a
     // stream of its own, which was opened for it, and what was read there is its answer.
-    ensures relayed { HasRelayed terms.port terms.limits.idle patience (N.meaning net.new).connections (D.meaning dial.new) }
+    ensures relayed { HasRelayed terms.port terms.limits.idle upstream.new.patience (N.meaning net.new).connections (D.meaning upstream.new.dial) }
+    ensures patience { upstream.new.patience ≡ upstream.old.patience }
     ensures most { (N.meaning net.new).most ≤ terms.limits.pool }
     // At any end so many were accepted at most.
     ensures within { length (N.meaning net.new).connections ≤ terms.limits.conns }
@@ -81,7 +81,14 @@ pub fn serve_relay<N: Net, D: Dial, H: Wait>(
     ensures listens { (N.meaning net.new).listens ≡ (N.meaning net.old).listens }
     ensures never_falls { (N.meaning net.old).faults ≤ (N.meaning net.new).faults }
 {
-    let mut relays = Relays::new(alloc, patience);
-    let end = serve_on::<RelayTalk, D, Relays, N, H>(rt, alloc, net, &mut relays, dial, terms);
+    let mut relays = Relays::new(alloc);
+    let end = serve_on::<RelayTalk, Upstream<D>, Relays, N, H>(
+        rt,
+        alloc,
+        net,
+        &mut relays,
+        upstream,
+        terms,
+    );
     end_of(end)
 }
