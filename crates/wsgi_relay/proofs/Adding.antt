@@ -59,7 +59,7 @@ module _ (asked : List Asked) (a : Asked) where
 
 -- nobody asked yet
 pub asked_none : (asked : List Asked) (listed : Listing RelayTalk) (accepted : ℕ) → asked ≡ [] → HaveAsked asked listed accepted
-asked_none asked listed accepted none = owned_none next_of (IsAsked asked) (owner_of (asker_in asked)) listed accepted (λ n x. absurd (nowhere n (subst (λ (as : List Asked). n < length as) none x)))
+asked_none asked listed accepted none = owned_none next_of (IsAsked asked) (owner_of (asker_in asked)) listed accepted (λ n x. absurd (nowhere n (subst (λ (l : List Asked). n < length l) none x)))
   where
     nowhere : (n : ℕ) → n < length {A = Asked} [] → ⊥
     nowhere n x = omega arith

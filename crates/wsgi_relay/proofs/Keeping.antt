@@ -6,7 +6,7 @@ use Rattle.std.proofs.lemmas.Bool.Decides.{nat_tests}
 use Rattle.std.proofs.lemmas.List.{length-append, length-set, get_or-set_same, get_or-set_other, get_or-append-add, get_or_append_left}
 use Rattle.scgi_core.specs.Laws.{is_plain}
 use Rattle.stream_net.specs.Net.{Connection, connection_at, absent_connection}
-use Rattle.stream_dial.specs.Dials.{DialMeaning, OpensNone}
+use Rattle.stream_dial.specs.Dials.{DialMeaning, HasOpenedNone}
 use Rattle.wsgi_relay.specs.Accounts.{asker_in, given_in, nobody}
 use Rattle.wsgi_relay.specs.Relaying.{Asked, Asker, Given, Givings, HasStream, IsAnswered, IsSent, asked_by}
 use Rattle.wsgi_relay.specs.Tied.{HasOneMore, IsKept}
@@ -155,3 +155,18 @@ kept_given patience m asked list conn number g h new = record {
     by k i other (inl e) =
         subst (λ (x : Given). HasStream (asker_in asked) m patience k i x) e.2 (subst (λ (n : ℕ). HasStream (asker_in asked) m patience k n g) e.1 (subst (λ (n : ℕ). HasStream (asker_in asked) m patience n number g) e.0 new))
     by k i other (inr is) = h.replies k i other is
+
+-- no stream was opened yet
+pub kept_none : (patience : ℕ) (m : DialMeaning) (asked : List Asked) (list : List ((ℕ × ℕ) × Given)) → HasOpenedNone m → asked ≡ [] → list ≡ [] → IsKept patience m asked (given_in list)
+kept_none patience m asked list none none_asked none_given = record {
+  count = ap (λ (l : List Asked). length l) none_asked ∙ sym empty;
+  timed = ap (λ (l : List ℕ). length l) none.none_at ∙ sym empty;
+  sent = λ e within. absurd (let long = empty in omega (arith, long, within));
+  replies = λ conn number g is. absurd (nothing conn number g (subst (λ (l : List ((ℕ × ℕ) × Given)). given_in l conn number ≡ Some g) none_given is));
+}
+  where
+    empty : length m.streams ≡ 0
+    empty = ap (λ (l : List Connection). length l) none.none
+
+    nothing : (conn number : ℕ) (g : Given) → ◌≡◌ {A = Option Given} None (Some g) → ⊥
+    nothing conn number g e = absurd (cc)

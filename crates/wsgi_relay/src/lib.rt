@@ -10,5 +10,5 @@ mod serving;
 
 pub use exchange::Exchange;
 pub use relay_talk::RelayTalk;
-pub use relays::{Relays, Upstream};
+pub use relays::{AppServer, Relays};
 pub use serving::{RelayEnd, serve_relay};

@@ -39,7 +39,7 @@ const MOST_READ: usize = 16384;
 
 /// An application server.
 #[derive(Drop)]
-pub struct Upstream<D> {
+pub struct AppServer<D> {
     /// The streams towards it.
     pub dial: D,
     /// How long a reply may take, in milliseconds.
@@ -198,7 +198,7 @@ impl Relays {
     /// Opens a stream for a request, and sends what goes at once. After an `Err` memory ran out.
     fn open_stream<D: Dial>(
         &mut self,
-        upstream: &mut Upstream<D>,
+        upstream: &mut AppServer<D>,
         asked: &AskedOn,
         exchange: &mut Exchange,
         body: &[u8],
@@ -225,7 +225,7 @@ impl Relays {
     /// Hands the request of a session on. After an `Err` memory ran out.
     fn hand_on<D: Dial>(
         &mut self,
-        upstream: &mut Upstream<D>,
+        upstream: &mut AppServer<D>,
         conn: u32,
         session: &Session,
     ) -> Result<(), AllocError>
@@ -266,7 +266,7 @@ impl Relays {
     /// `Err` memory ran out.
     fn go_on<D: Dial>(
         &self,
-        upstream: &mut Upstream<D>,
+        upstream: &mut AppServer<D>,
         table: &ClientTable<RelayTalk>,
         slot: usize,
         exchange: &mut Exchange,
@@ -291,7 +291,7 @@ impl Relays {
     }
 
     /// Goes on with a stream of which there is news.
-    fn turn<D: Dial>(&mut self, upstream: &mut Upstream<D>, table: &ClientTable<RelayTalk>) -> Turn
+    fn turn<D: Dial>(&mut self, upstream: &mut AppServer<D>, table: &ClientTable<RelayTalk>) -> Turn
         requires tied { IsTied (D.meaning upstream.old.dial) upstream.old.patience self.old.askers.list self.old.exchanges.items (IsListed table.now) }
         requires kept { IsKept upstream.old.patience (D.meaning upstream.old.dial) self.old.askers.list (given_in self.old.replies.list) }
         ensures kept { IsKept upstream.new.patience (D.meaning upstream.new.dial) self.new.askers.list (given_in self.new.replies.list) }
@@ -324,7 +324,7 @@ impl Relays {
     /// Ends the exchange in a slot, and gives the reply to the client that waits for it.
     fn release<D: Dial>(
         &mut self,
-        upstream: &mut Upstream<D>,
+        upstream: &mut AppServer<D>,
         table: &mut ClientTable<RelayTalk>,
         slot: usize,
         far: Far,
@@ -365,7 +365,7 @@ impl Relays {
     }
 }
 
-impl<D: Dial> Service<RelayTalk, Upstream<D>> for Relays {
+impl<D: Dial> Service<RelayTalk, AppServer<D>> for Relays {
     ghost protocol = { relay_protocol };
 
     ghost rank = { rank_of };
@@ -437,7 +437,7 @@ impl<D: Dial> Service<RelayTalk, Upstream<D>> for Relays {
     /// Hands the request of the client on, over a stream of its own.
     fn hold(
         &mut self,
-        world: &mut Upstream<D>,
+        world: &mut AppServer<D>,
         client: &mut Client<RelayTalk>,
     ) -> Result<(), HoldRefusal> {
         if self
@@ -454,7 +454,7 @@ impl<D: Dial> Service<RelayTalk, Upstream<D>> for Relays {
     /// Goes on with the streams of which there is news until the exchange of one is over.
     fn poll(
         &mut self,
-        world: &mut Upstream<D>,
+        world: &mut AppServer<D>,
         table: &mut ClientTable<RelayTalk>,
         deadline: u64,
     ) -> Polled<RelayTalk> {

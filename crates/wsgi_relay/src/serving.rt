@@ -9,7 +9,7 @@ ghost use Rattle.stream_server.specs.Ranges.{IsInRange};
 ghost use Rattle.wsgi_relay.specs.Relaying.{HasRelayed};
 
 use crate::relay_talk::RelayTalk;
-use crate::relays::{Relays, Upstream};
+use crate::relays::{AppServer, Relays};
 use std::alloc::Global;
 use std::sync::Wait;
 use stream_dial::Dial;
@@ -57,7 +57,7 @@ pub fn serve_relay<N: Net, D: Dial, H: Wait>(
     rt: &H,
     alloc: Global,
     net: &mut N,
-    upstream: &mut Upstream<D>,
+    upstream: &mut AppServer<D>,
     terms: Terms,
 ) -> RelayEnd
     requires listens { IsSome (N.meaning net.old).listens }
@@ -82,7 +82,7 @@ pub fn serve_relay<N: Net, D: Dial, H: Wait>(
     ensures never_falls { (N.meaning net.old).faults ≤ (N.meaning net.new).faults }
 {
     let mut relays = Relays::new(alloc);
-    let end = serve_on::<RelayTalk, Upstream<D>, Relays, N, H>(
+    let end = serve_on::<RelayTalk, AppServer<D>, Relays, N, H>(
         rt,
         alloc,
         net,
