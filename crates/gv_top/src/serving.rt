@@ -40,6 +40,7 @@ use stream_net::Net;
 use stream_server::{Limits, Terms};
 use world::World;
 use wsgi_core::Application;
+use wsgi_relay::AppServer;
 
 /// How much a server of these options does.
 fn limits_of(options: ServeOptions) -> Limits
@@ -108,18 +109,18 @@ fn serve_as<K: Sink, N: Net, W: World, D: Dial, A: Application, H: Wait>(
     out: &mut K,
     net: &mut N,
     native: &mut W,
-    dial: &mut D,
+    behind: &mut AppServer<D>,
 ) -> Served
     requires rests { (W.meaning native.old).runs ≡ false }
     requires fresh { IsFresh (N.meaning net.old) }
-    requires undialled { HasOpenedNone (D.meaning dial.old) }
+    requires undialled { HasOpenedNone (D.meaning behind.old.dial) }
     requires in_range { IsInRange (limits_of options) }
     requires answers_in_range { AreAnswersInRange options.answers }
-    ensures serves { ServesWith options.answers result options.port (A.answer_of host.now.app.now) (limits_of options) (N.meaning net.new) (D.meaning dial.new) (W.meaning native.old) (W.meaning native.new) (W.stands_for native.new) (K.written out.old) (K.written out.new) }
+    ensures serves { ServesWith options.answers result options.port (A.answer_of host.now.app.now) (limits_of options) (N.meaning net.new) (D.meaning behind.new.dial) (W.meaning native.old) (W.meaning native.new) (W.stands_for native.new) (K.written out.old) (K.written out.new) }
     ensures told { IsToldFirst options.port (N.meaning net.new) (K.written out.old) (K.handed out.new) }
     ensures handed { K.handed out.old ≡ K.written out.old → result ≢ Served.WriteFault → result ≢ Served.Memory → K.handed out.new ≡ K.written out.new }
     ensures untouched { are_native options.answers ≡ false → native.new ≡ native.old }
-    ensures undialled { passes_on options.answers ≡ false → dial.new ≡ dial.old }
+    ensures undialled { passes_on options.answers ≡ false → behind.new ≡ behind.old }
     ensures rests { (W.meaning native.new).runs ≡ false }
     ensures listens { Counts (result ≡ Served.Listener) (N.meaning net.old).faults (N.meaning net.new).faults }
     ensures writes { Counts (result ≡ Served.WriteFault) (K.faults out.old) (K.faults out.new) }
@@ -144,7 +145,7 @@ fn serve_as<K: Sink, N: Net, W: World, D: Dial, A: Application, H: Wait>(
                 pass: options.port,
                 patience: options.patience,
             };
-            serve_relay_command(host.rt, host.alloc, relay, out, net, dial)
+            serve_relay_command(host.rt, host.alloc, relay, out, net, behind)
         }
     }
 }
@@ -156,16 +157,16 @@ fn serve<K: Sink, N: Net, W: World, D: Dial, A: Application, H: Wait>(
     out: &mut K,
     net: &mut N,
     native: &mut W,
-    dial: &mut D,
+    behind: &mut AppServer<D>,
 ) -> Served
     requires rests { (W.meaning native.old).runs ≡ false }
     requires fresh { IsFresh (N.meaning net.old) }
-    requires undialled { HasOpenedNone (D.meaning dial.old) }
+    requires undialled { HasOpenedNone (D.meaning behind.old.dial) }
     requires named { IsSome (serve_of (map string_bytes words.now)) }
     ensures serves { (options : AnyServer) → serve_of (map string_bytes words.now) ≡ Some options →
-        ServesWith options.answers result options.port (A.answer_of host.now.app.now) (limits_of options) (N.meaning net.new) (D.meaning dial.new) (W.meaning native.old) (W.meaning native.new) (W.stands_for native.new) (K.written out.old) (K.written out.new) }
+        ServesWith options.answers result options.port (A.answer_of host.now.app.now) (limits_of options) (N.meaning net.new) (D.meaning behind.new.dial) (W.meaning native.old) (W.meaning native.new) (W.stands_for native.new) (K.written out.old) (K.written out.new) }
     ensures untouched { is_native_server (serve_of (map string_bytes words.now)) ≡ false → native.new ≡ native.old }
-    ensures undialled { is_passing_server (serve_of (map string_bytes words.now)) ≡ false → dial.new ≡ dial.old }
+    ensures undialled { is_passing_server (serve_of (map string_bytes words.now)) ≡ false → behind.new ≡ behind.old }
     ensures rests { (W.meaning native.new).runs ≡ false }
     ensures told { (options : AnyServer) → serve_of (map string_bytes words.now) ≡ Some options →
         IsToldFirst options.port (N.meaning net.new) (K.written out.old) (K.handed out.new) }
@@ -178,7 +179,7 @@ fn serve<K: Sink, N: Net, W: World, D: Dial, A: Application, H: Wait>(
         return Served::Memory;
     };
     match server_options(command) {
-        Some(options) => serve_as(host, options, out, net, native, dial),
+        Some(options) => serve_as(host, options, out, net, native, behind),
         // `offline` leaves only words that name a server.
         None => unreachable!(),
     }
@@ -211,12 +212,12 @@ pub fn gvr<S: Source, K: Sink, E: Sink, W: World, N: Net, D: Dial, A: Applicatio
     err: &mut E,
     native: &mut W,
     net: &mut N,
-    dial: &mut D,
+    behind: &mut AppServer<D>,
     app: &A,
 ) -> u8
     requires rests { (W.meaning native.old).runs ≡ false }
     requires fresh { IsFresh (N.meaning net.old) }
-    requires undialled { HasOpenedNone (D.meaning dial.old) }
+    requires undialled { HasOpenedNone (D.meaning behind.old.dial) }
     ensures answers { serve_of (map string_bytes words.now) ≡ None →
         AnswersCommand result (A.answer_of app.now) (offline_command_of (map string_bytes words.now)) (W.meaning native.new) (W.stands_for native.new)
         (seen S.remaining S.faults input.old input.new) (seen K.written K.faults out.old out.new) (seen E.written E.faults err.old err.new) }
@@ -247,13 +248,13 @@ pub fn gvr<S: Source, K: Sink, E: Sink, W: World, N: Net, D: Dial, A: Applicatio
     // where native workers answer the requests for jobs, in whichever order, and where an application server answers
     // each over a stream of its own. It reads no input.
     ensures served { (options : AnyServer) → serve_of (map string_bytes words.now) ≡ Some options →
-        Serves result (A.answer_of app.now) options (N.meaning net.new) (D.meaning dial.new) (W.meaning native.old) (W.meaning native.new) (W.stands_for native.new) (K.written out.old) (K.written out.new) (E.written err.old) (E.written err.new) }
+        Serves result (A.answer_of app.now) options (N.meaning net.new) (D.meaning behind.new.dial) (W.meaning native.old) (W.meaning native.new) (W.stands_for native.new) (K.written out.old) (K.written out.new) (E.written err.old) (E.written err.new) }
     ensures told { (options : AnyServer) → serve_of (map string_bytes words.now) ≡ Some options →
         IsToldFirst options.port (N.meaning net.new) (K.written out.old) (K.handed out.new) }
     ensures network_fault { result ≡ 10 → IsSome (serve_of (map string_bytes words.now)) × HasRisen (N.meaning net.old).faults (N.meaning net.new).faults }
     ensures net_unfailed { result ≢ 5 → result ≢ 10 → (N.meaning net.new).faults ≡ (N.meaning net.old).faults }
     // Streams are dialled by a server that passes its requests on, and by nothing else.
-    ensures dial_alone { is_passing_server (serve_of (map string_bytes words.now)) ≡ false → dial.new ≡ dial.old }
+    ensures behind_alone { is_passing_server (serve_of (map string_bytes words.now)) ≡ false → behind.new ≡ behind.old }
     ensures net_alone { serve_of (map string_bytes words.now) ≡ None → net.new ≡ net.old }
     ensures net_never_falls { (N.meaning net.old).faults ≤ (N.meaning net.new).faults }
     ensures input_never_falls { S.faults input.old ≤ S.faults input.new }
@@ -264,7 +265,7 @@ pub fn gvr<S: Source, K: Sink, E: Sink, W: World, N: Net, D: Dial, A: Applicatio
         Some(status) => status,
         None => {
             let host = Host { rt, alloc, app };
-            let end = serve(&host, words, out, net, native, dial);
+            let end = serve(&host, words, out, net, native, behind);
             tell(alloc, verdict_of_server(end), err)
         }
     }

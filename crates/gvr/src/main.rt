@@ -28,6 +28,7 @@ use stream_dial::Dial;
 use stream_net::Net;
 use world::World;
 use wsgi_core::ShippedApp;
+use wsgi_relay::AppServer;
 
 /// How many bytes of the trace are kept back before they are written out.
 const TRACE_CAPACITY: usize = 65536;
@@ -63,11 +64,11 @@ fn run_streams<H: Wait, W: World, N: Net, D: Dial>(
     words: &[String],
     native: &mut W,
     net: &mut N,
-    dial: &mut D,
+    behind: &mut AppServer<D>,
 ) -> Result<u8, AllocError>
     requires rests { (W.meaning native.old).runs ≡ false }
     requires fresh { IsFresh (N.meaning net.old) }
-    requires undialled { HasOpenedNone (D.meaning dial.old) }
+    requires undialled { HasOpenedNone (D.meaning behind.old.dial) }
 {
     let mut input = StdSource::new(rt.reader());
     let mut err = StdSink::new(rt.alloc(), rt.stderr().lock(), LINE_CAPACITY)?;
@@ -81,7 +82,7 @@ fn run_streams<H: Wait, W: World, N: Net, D: Dial>(
         &mut err,
         native,
         net,
-        dial,
+        behind,
         &ShippedApp,
     ))
 }
@@ -100,12 +101,13 @@ fn run_words<H: Wait, W: World>(
     let Ok(mut net) = MioNet::new(rt, rt.alloc()) else {
         return Err(AllocError);
     };
-    // A server that dials is told its port by the words.
-    let Ok(mut dial) = MioDial::new(rt, rt.alloc(), Upstream::Port(0)) else {
+    // Its port and patience are told by the words.
+    let Ok(dial) = MioDial::new(rt, rt.alloc(), Upstream::Port(0)) else {
         return Err(AllocError);
     };
     net.watch(&[bell, dial.descriptor()]);
-    let status = run_streams(rt, handle, words.as_slice(), native, &mut net, &mut dial);
+    let mut behind = AppServer { dial, patience: 0 };
+    let status = run_streams(rt, handle, words.as_slice(), native, &mut net, &mut behind);
     net.let_go();
     status
 }

@@ -23,6 +23,7 @@ use stream_dial::MemoryDial;
 use stream_net::Net;
 use world::World;
 use wsgi_core::ShippedApp;
+use wsgi_relay::AppServer;
 
 /// How many clients ask and read.
 const CLIENTS: u32 = 64;
@@ -102,7 +103,8 @@ fn call_over<H: Wait, N: Net, W: World>(
     let mut err = MemorySink::new(alloc, 100)?;
     let mut out = MemorySink::new(alloc, 100)?;
     let mut input = MemorySource::new(Vec::new(alloc), 1, Vec::new(alloc));
-    let mut dial = MemoryDial::new(alloc, Vec::new(alloc));
+    let dial = MemoryDial::new(alloc, Vec::new(alloc));
+    let mut behind = AppServer { dial, patience: 0 };
     let status = gvr(
         rt,
         alloc,
@@ -112,7 +114,7 @@ fn call_over<H: Wait, N: Net, W: World>(
         &mut err,
         native,
         net,
-        &mut dial,
+        &mut behind,
         &ShippedApp,
     );
     Ok(Left { status, out })

@@ -13,6 +13,7 @@ use stream_dial::MemoryDial;
 use stream_net::{Arrivals, ConnScript, Net, Piece, Rooms};
 use world::{ListWorld, ScriptWorld, World};
 use wsgi_core::ShippedApp;
+use wsgi_relay::AppServer;
 
 /// A call of `serve`, and what it leaves.
 #[derive(Clone, Copy)]
@@ -47,7 +48,8 @@ fn serve_net<N: Net, W: World, H: Wait>(
 {
     let words = words_of(alloc, line)?;
     let mut input = MemorySource::new(Vec::new(alloc), 1, Vec::new(alloc));
-    let mut dial = MemoryDial::new(alloc, Vec::new(alloc));
+    let dial = MemoryDial::new(alloc, Vec::new(alloc));
+    let mut behind = AppServer { dial, patience: 0 };
     Ok(gvr(
         rt,
         alloc,
@@ -57,7 +59,7 @@ fn serve_net<N: Net, W: World, H: Wait>(
         &mut written.err,
         native,
         net,
-        &mut dial,
+        &mut behind,
         &ShippedApp,
     ))
 }

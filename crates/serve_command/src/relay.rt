@@ -15,7 +15,7 @@ use std::sync::Wait;
 use stream_dial::Dial;
 use stream_net::Net;
 use stream_server::Terms;
-use wsgi_relay::{RelayEnd, serve_relay};
+use wsgi_relay::{AppServer, RelayEnd, serve_relay};
 
 /// On which terms a server passes its requests on.
 #[derive(Clone, Copy, Debug, PartialEq, Eq)]
@@ -53,12 +53,12 @@ pub fn serve_relay_command<K: Sink, N: Net, D: Dial, H: Wait>(
     relay: RelayTerms,
     out: &mut K,
     net: &mut N,
-    dial: &mut D,
+    behind: &mut AppServer<D>,
 ) -> Served
     requires fresh { IsFresh (N.meaning net.old) }
     requires in_range { IsInRange relay.terms.limits }
-    requires opened_none { HasOpenedNone (D.meaning dial.old) }
-    ensures serves { ServesRelayAt result relay.pass relay.patience relay.terms.port relay.terms.limits (N.meaning net.new) (D.meaning dial.new) (K.written out.old) (K.written out.new) }
+    requires opened_none { HasOpenedNone (D.meaning behind.old.dial) }
+    ensures serves { ServesRelayAt result relay.pass relay.patience relay.terms.port relay.terms.limits (N.meaning net.new) (D.meaning behind.new.dial) (K.written out.old) (K.written out.new) }
     ensures told { IsToldFirst relay.terms.port (N.meaning net.new) (K.written out.old) (K.handed out.new) }
     ensures handed { K.handed out.old ≡ K.written out.old → result ≢ Served.WriteFault → result ≢ Served.Memory → K.handed out.new ≡ K.written out.new }
     ensures listener { result ≡ Served.Listener → HasRisen (N.meaning net.old).faults (N.meaning net.new).faults }
@@ -69,7 +69,8 @@ pub fn serve_relay_command<K: Sink, N: Net, D: Dial, H: Wait>(
     ensures out_never_falls { K.faults out.old ≤ K.faults out.new }
 {
     let terms = relay.terms;
-    dial.aim(relay.pass);
+    behind.patience = relay.patience;
+    behind.dial.aim(relay.pass);
     let port = match open_port(alloc, terms.port, out, net) {
         Ok(port) => port,
         Err(end) => return end,
@@ -78,6 +79,6 @@ pub fn serve_relay_command<K: Sink, N: Net, D: Dial, H: Wait>(
         port,
         limits: terms.limits,
     };
-    let end = served_end(serve_relay(rt, alloc, net, dial, relay.patience, taken));
+    let end = served_end(serve_relay(rt, alloc, net, behind, taken));
     tell_end(alloc, end, terms.limits.conns, out)
 }

@@ -64,8 +64,8 @@ returns-in-None-clause-network_fault g c = λ e.
     let t = told_as c.verdict_of_server.ensures c.tell.ensures.told in
     (c.in-None.ensures.serve, c.serve-end.ensures.listens.failed (is_listener _ c.serve-end.result (status_or _ _ t.0 _ _ _ _ t.1 t.2) e))
 
-pub returns-in-None-clause-dial_alone : goal.returns-in-None-clause-dial_alone
-returns-in-None-clause-dial_alone g c = c.serve-end.ensures.undialled
+pub returns-in-None-clause-behind_alone : goal.returns-in-None-clause-behind_alone
+returns-in-None-clause-behind_alone g c = c.serve-end.ensures.undialled
 
 pub returns-in-None-clause-net_alone : goal.returns-in-None-clause-net_alone
 returns-in-None-clause-net_alone g c = λ none. none_named _ _ c.in-None.ensures.serve none

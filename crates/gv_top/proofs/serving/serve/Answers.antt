@@ -23,7 +23,7 @@ serve_as-requires-clause-answers_in_range g c =
 pub returns-clause-serves : goal.returns-clause-serves
 returns-clause-serves g c =
     let named = ap (option_and_then serving) (sym c.in-Ok.ensures) ∙ sym c.server_options.ensures ∙ c.in-Some.is in
-    by_options (λ (o : ServeOptions). ServesWith o.answers c.serve_as.result o.port (g.A.Application.answer_of c.args.host.now.app.now) (limits_of o) (g.N.Net.meaning c.serve_as.new.net) (g.D.Dial.meaning c.serve_as.new.dial) (g.W.World.meaning c.args.native.now) (g.W.World.meaning c.serve_as.new.native) (g.W.World.stands_for c.serve_as.new.native) (g.K.Sink.written c.args.out.now) (g.K.Sink.written c.serve_as.new.out))
+    by_options (λ (o : ServeOptions). ServesWith o.answers c.serve_as.result o.port (g.A.Application.answer_of c.args.host.now.app.now) (limits_of o) (g.N.Net.meaning c.serve_as.new.net) (g.D.Dial.meaning c.serve_as.new.behind.dial) (g.W.World.meaning c.args.native.now) (g.W.World.meaning c.serve_as.new.native) (g.W.World.stands_for c.serve_as.new.native) (g.K.Sink.written c.args.out.now) (g.K.Sink.written c.serve_as.new.out))
     _ c.in-Some.options named c.serve_as.ensures.serves
 
 pub returns-in_default-clause-told : goal.returns-in_default-clause-told

@@ -1,5 +1,6 @@
-use Rattle.std.proofs.Common.{ap, ◌∙◌}
+use Rattle.std.proofs.Common.{ap, ℕ, subst, ◌∙◌}
 use Rattle.stream_dial.specs.Dials.{DialMeaning}
+use Rattle.wsgi_relay.specs.Relaying.{HasRelayed}
 use Rattle.serve_command.proofs.Ends.{none_told, told_first}
 use Rattle.serve_command.proofs.RelayEnds.{none_served_relay, serves_relay_so}
 use Rattle.serve_command.proofs.relay.serve_relay_command.Goals as goal
@@ -24,9 +25,9 @@ returns-clause-serves g c =
     let s = c.serve_relay.ensures in
     let e = c.served_end-end.ensures in
     let t = c.tell_end.ensures in
-    serves_relay_so c.args.relay.pass c.args.relay.patience c.args.relay.terms.port c.args.relay.terms.limits (g.N.Net.meaning c.serve_relay.new.net) (g.D.Dial.meaning c.serve_relay.new.dial) (g.K.Sink.written c.args.out.now) (g.K.Sink.written c.open_port.new.out) (g.K.Sink.written c.tell_end.new.out) c.in-Ok.port c.served_end-end.result c.tell_end.result
+    serves_relay_so c.args.relay.pass c.args.relay.patience c.args.relay.terms.port c.args.relay.terms.limits (g.N.Net.meaning c.serve_relay.new.net) (g.D.Dial.meaning c.serve_relay.new.upstream.dial) (g.K.Sink.written c.args.out.now) (g.K.Sink.written c.open_port.new.out) (g.K.Sink.written c.tell_end.new.out) c.in-Ok.port c.served_end-end.result c.tell_end.result
     c.in-Ok.ensures.told s.rest_but s.most s.within (s.listens ∙ c.in-Ok.ensures.listens) t.stays e.no_line t.begins t.told t.silent
-    (λ f. s.finished (e.finished f)) (λ f. s.resting (e.listener f)) e.no_jobs s.relayed (s.towards ∙ ap (λ (m : DialMeaning). m.towards) c.aim.ensures)
+    (λ f. s.finished (e.finished f)) (λ f. s.resting (e.listener f)) e.no_jobs (subst (λ (ms : ℕ). HasRelayed c.in-Ok.port c.args.relay.terms.limits.idle ms (g.N.Net.meaning c.serve_relay.new.net).connections (g.D.Dial.meaning c.serve_relay.new.upstream.dial)) s.patience s.relayed) (s.towards ∙ ap (λ (m : DialMeaning). m.towards) c.aim.ensures)
 
 pub returns-clause-told : goal.returns-clause-told
 returns-clause-told g c =
