@@ -7,12 +7,13 @@ ghost use Rattle.command_words.specs.Clap.{by_clap, command_in, is_stray};
 
 use crate::clap_command::program;
 use crate::command::{
-    GatewayKind, NamedCommand, PassOptions, ResultOrder, RunOptions, RunWorld, ServeAnswers, ServeOptions,
-    TextCommand, TraceCheck,
+    GatewayKind, NamedCommand, PassOptions, ResultOrder, RunOptions, RunWorld, ServeAnswers,
+    ServeOptions, TextCommand, TraceCheck,
 };
 use crate::numbers::{given, number_by};
 use crate::table::{
-    CHECK, CONNS, DRAIN, DRAINED_CONNS, GATEWAY, IDLE, JOBS, MOVES, NATIVE, ORDER, PASS, PATIENCE, POOL, PORT, SIZE, TICK, TURNS,
+    CHECK, CONNS, DRAIN, DRAINED_CONNS, GATEWAY, IDLE, JOBS, MOVES, NATIVE, ORDER, PASS, PATIENCE,
+    POOL, PORT, SIZE, TICK, TURNS,
 };
 use clap::ArgMatches;
 use clap::error::ErrorKind;

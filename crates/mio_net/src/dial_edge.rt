@@ -129,11 +129,7 @@ pub fn write_stream(stream: &Stream, first: &[u8], second: &[u8]) -> WriteEnd
 
 /// Puts the slots that the poll tells of into the queue, which is empty and has room for them, so that the first is
 /// taken first. Nothing is waited for.
-pub fn poll_slots(
-    poll: &mut Option<Poll>,
-    events: &mut Events<Global>,
-    queue: &mut Vec<usize>,
-) {
+pub fn poll_slots(poll: &mut Option<Poll>, events: &mut Events<Global>, queue: &mut Vec<usize>) {
     let Some(poll) = poll else {
         return;
     };

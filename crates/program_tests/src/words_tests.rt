@@ -1,8 +1,8 @@
 //! Words, and what they ask for.
 use crate::calls::words_of;
 use command_words::{
-    GatewayKind, NamedCommand, PassOptions, RunOptions, RunWorld, ServeAnswers, ServeOptions, TextCommand,
-    command_of,
+    GatewayKind, NamedCommand, PassOptions, RunOptions, RunWorld, ServeAnswers, ServeOptions,
+    TextCommand, command_of,
 };
 use std::alloc::{AllocError, Global};
 
