@@ -17,7 +17,7 @@ use Rattle.command_words.specs.declared.command.PassOptions.{PassOptions}
 use Rattle.command_words.specs.declared.command.ServeAnswers.TheVariants.{Application}
 use Rattle.command_words.specs.declared.command.TextCommand.TheVariants.{Format}
 use Rattle.command_words.specs.declared.command.TraceCheck.{TraceCheck}
-use Rattle.command_words.specs.Words.{LookUp, OptionRow, Word, server_answers_by, check, check_by, check_named, command_by, command_of, conns, conns_by, drain_by, drained_conns, gateway_by, given, idle, jobs, jobs_by, jobs_in, laws_check, moves, native, number_by, number_in, options, order, order_by, pass, pass_by, pass_in, passed_by, patience, pool, port, row_of, run, run_by, run_check, format, wsgi, serve, serve_by, size, storm, storm_by, tick, turns, value_in, verify, verify_by, workers_by, workers_in, world_by, wsgi_by}
+use Rattle.command_words.specs.Words.{LookUp, OptionRow, Word, server_answers_by, check, check_by, check_named, command_by, command_of, conns, gateway_by, given, idle, jobs, jobs_by, jobs_in, laws_check, moves, native, number_by, number_in, options, order, order_by, pass, pass_by, pass_in, passed_by, patience, pool, port, row_of, run, run_by, run_check, format, wsgi, serve, serve_by, size, storm, storm_by, tick, turns, value_in, verify, verify_by, workers_by, workers_in, world_by, wsgi_by}
 use Rattle.command_words.specs.Ranges.{AreAnswersInRange, IsCheckInRange, IsInRange, IsWorldInRange, TakesNumber, takes_usual}
 
 -- ---- what gave a value
@@ -137,20 +137,15 @@ answers_take look a e = by (is_some (look pass.name)) e
     by true f = pass_takes look a f
     by false f = passed_take look a f
 
-conns_take : (drains : Bool) (look : LookUp) (n : ℕ) → conns_by drains look ≡ Some n → TakesNumber conns n
-conns_take true look n e = number_takes drained_conns look n refl e
-conns_take false look n e = number_takes conns look n refl e
-
 serve_takes : (look : LookUp) (c : NamedCommand) → serve_by look ≡ Some c → IsInRange c
 serve_takes look c e =
     let p = some_given (number_by port look) _ c e in
-    let d = some_given (drain_by look) _ c p.gives in
-    let n = some_given (conns_by d.value look) _ c d.gives in
+    let n = some_given (number_by conns look) _ c p.gives in
     let m = some_given (number_by pool look) _ c n.gives in
     let i = some_given (number_by idle look) _ c m.gives in
     let a = some_given (server_answers_by look) _ c i.gives in
     subst IsInRange (same_some _ _ a.gives)
-    (number_takes port look p.value refl p.is, conns_take d.value look n.value n.is, number_takes pool look m.value refl m.is, number_takes idle look i.value refl i.is, answers_take look a.value a.is)
+    (number_takes port look p.value refl p.is, number_takes conns look n.value refl n.is, number_takes pool look m.value refl m.is, number_takes idle look i.value refl i.is, answers_take look a.value a.is)
 
 wsgi_takes : (look : LookUp) (c : NamedCommand) → wsgi_by look ≡ Some c → IsInRange c
 wsgi_takes look c e = let g = some_mapped (gateway_by look) (λ k. Wsgi k) c e in subst IsInRange g.gives tt

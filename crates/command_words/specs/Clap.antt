@@ -6,7 +6,7 @@ use Rattle.clap.specs.Faults.{fault_of}
 use Rattle.clap.specs.declared.builder.action.ArgAction.TheVariants.{Set}
 use Rattle.command_words.specs.declared.command.NamedCommand.{NamedCommand}
 use Rattle.command_words.specs.declared.table.CommandOption.{CommandOption}
-use Rattle.command_words.specs.declared.table.CommandOption.TheVariants.{Number, Gateway, Order, Check, Drain}
+use Rattle.command_words.specs.declared.table.CommandOption.TheVariants.{Number, Gateway, Order, Check}
 use Rattle.command_words.specs.declared.table.CommandRow.{CommandRow as DeclaredCommandRow}
 use Rattle.command_words.specs.declared.table.NumberOption.{NumberOption}
 use Rattle.command_words.specs.Words.{CommandRow, OptionRow, Word, begins_with_dash, command_by, commands, option_word}
@@ -20,7 +20,6 @@ name_of (Number o) = o.name.now
 name_of (Gateway name) = name.now
 name_of (Order name) = name.now
 name_of (Check name) = name.now
-name_of (Drain name) = name.now
 
 abbrev pub command_row : DeclaredCommandRow → CommandRow
 command_row c = record { name = c.name.now; options = map name_of c.options.now }

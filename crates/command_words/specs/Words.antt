@@ -1,5 +1,5 @@
 -- Which lists of words are commands, and what they ask for.
-use Rattle.std.specs.Prelude.{◌==◌, ◌&&◌, ℕ, Bool, true, false, not, nat_le, if◌then◌else◌, List, [], ◌∷◌, ◌++◌, find, is_some, Option, Some, None, option_map, option_and_then, codes}
+use Rattle.std.specs.Prelude.{◌==◌, ◌&&◌, ℕ, Bool, false, not, nat_le, if◌then◌else◌, List, [], ◌∷◌, ◌++◌, find, is_some, Option, Some, None, option_map, option_and_then, codes}
 use Rattle.std.specs.List.{list_any, before_first, after_first}
 use Rattle.std.specs.Str.{bytes_eq}
 use Rattle.std.specs.Str.Parse.{digits_value}
@@ -53,10 +53,6 @@ port = record { name = codes "port"; least = 0; most = MOST_PORT; usual = None }
 abbrev pub conns : OptionRow
 conns = record { name = codes "conns"; least = 1; most = MOST_CONNECTIONS; usual = None }
 
--- those of a server that is drained: where it is left out, the most
-abbrev pub drained_conns : OptionRow
-drained_conns = record conns { usual = Some MOST_CONNECTIONS }
-
 abbrev pub pool : OptionRow
 pool = record { name = codes "pool"; least = 1; most = MOST_OPEN_CONNECTIONS; usual = Some USUAL_OPEN_CONNECTIONS }
 
@@ -71,10 +67,6 @@ pass = record { name = codes "pass"; least = 1; most = MOST_PORT; usual = None }
 
 abbrev pub patience : OptionRow
 patience = record { name = codes "patience"; least = 1; most = MOST_IDLE; usual = Some USUAL_PATIENCE }
-
--- the option whose value names what drains a server; nothing does where it is left out
-abbrev pub drain : Word
-drain = codes "drain"
 
 -- the option whose value is a gateway, by its name; `http` stands where it is left out
 abbrev pub gateway : Word
@@ -102,7 +94,7 @@ abbrev pub wsgi : CommandRow
 wsgi = record { name = codes "wsgi"; options = gateway ∷ [] }
 
 abbrev pub serve : CommandRow
-serve = record { name = codes "serve"; options = port.name ∷ conns.name ∷ pool.name ∷ idle.name ∷ gateway ∷ jobs.name ∷ pass.name ∷ patience.name ∷ drain ∷ [] }
+serve = record { name = codes "serve"; options = port.name ∷ conns.name ∷ pool.name ∷ idle.name ∷ gateway ∷ jobs.name ∷ pass.name ∷ patience.name ∷ [] }
 
 abbrev pub storm : CommandRow
 storm = record { name = codes "storm"; options = size.name ∷ [] }
@@ -260,27 +252,14 @@ passed_by look =
 abbrev pub server_answers_by : LookUp → Option ServeAnswers
 server_answers_by look = if is_some (look pass.name) then pass_by look else passed_by look
 
--- what drains a server, by its name: true for the end of its input
-abbrev pub drain_named : Word → Option Bool
-drain_named word = if bytes_eq word (codes "input") then Some true else None
-
--- whether the end of its input drains a server
-abbrev pub drain_by : LookUp → Option Bool
-drain_by look = elim (look drain) [ Some word ↦ drain_named word | None ↦ Some false ]
-
--- the connections of a server, which one that is drained may leave out
-abbrev pub conns_by : Bool → LookUp → Option ℕ
-conns_by drains look = if drains then number_by drained_conns look else number_by conns look
-
 abbrev pub serve_by : LookUp → Option NamedCommand
 serve_by look =
     given (number_by port look) (λ port.
-    given (drain_by look) (λ drains.
-    given (conns_by drains look) (λ conns.
+    given (number_by conns look) (λ conns.
     given (number_by pool look) (λ pool.
     given (number_by idle look) (λ idle.
     given (server_answers_by look) (λ answers.
-    Some (Serve (record { port = port; conns = conns; pool = pool; idle = idle; answers = answers; drains = drains }))))))))
+    Some (Serve (record { port = port; conns = conns; pool = pool; idle = idle; answers = answers })))))))
 
 abbrev pub storm_by : LookUp → Option NamedCommand
 storm_by look = option_map (λ n. Storm n) (number_by size look)

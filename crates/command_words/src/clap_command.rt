@@ -37,7 +37,6 @@ fn name_of(option: &CommandOption) -> &'static str
         CommandOption::Gateway(name) => *name,
         CommandOption::Order(name) => *name,
         CommandOption::Check(name) => *name,
-        CommandOption::Drain(name) => *name,
     }
 }
 

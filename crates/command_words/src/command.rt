@@ -82,8 +82,6 @@ pub struct ServeOptions {
     pub idle: u64,
     /// What it answers its peers with.
     pub answers: ServeAnswers,
-    /// Whether the end of its input drains it.
-    pub drains: bool,
 }
 
 /// What is checked of a trace.

@@ -2,7 +2,7 @@
 ghost use Rattle.std.specs.Prelude.{◌≡◌, IfOk, map, string_bytes};
 ghost use Rattle.std.specs.List.{list_any};
 ghost use Rattle.clap.specs.Words.{first_of, found_of, rows_of, subcommand_rows_of};
-ghost use Rattle.command_words.specs.Words.{server_answers_by, check_by, conns_by, drain_by, drain_named, pass_by, pass_in, passed_by, check_named, command_by, command_of, gateway_by, gateway_named, jobs_by, jobs_in, laws_check, order_by, order_named, run_by, run_check, serve_by, storm_by, verify_by, workers_by, workers_in, world_by, wsgi_by};
+ghost use Rattle.command_words.specs.Words.{server_answers_by, check_by, pass_by, pass_in, passed_by, check_named, command_by, command_of, gateway_by, gateway_named, jobs_by, jobs_in, laws_check, order_by, order_named, run_by, run_check, serve_by, storm_by, verify_by, workers_by, workers_in, world_by, wsgi_by};
 ghost use Rattle.command_words.specs.Clap.{by_clap, command_in, is_stray};
 
 use crate::clap_command::program;
@@ -12,8 +12,8 @@ use crate::command::{
 };
 use crate::numbers::{given, number_by};
 use crate::table::{
-    CHECK, CONNS, DRAIN, DRAINED_CONNS, GATEWAY, IDLE, JOBS, MOVES, NATIVE, ORDER, PASS, PATIENCE,
-    POOL, PORT, SIZE, TICK, TURNS,
+    CHECK, CONNS, GATEWAY, IDLE, JOBS, MOVES, NATIVE, ORDER, PASS, PATIENCE, POOL, PORT, SIZE,
+    TICK, TURNS,
 };
 use clap::ArgMatches;
 use clap::error::ErrorKind;
@@ -24,10 +24,10 @@ use std::alloc::{AllocError, Global};
 /// The command is the first word. Each option is one word `--name` followed by one word, or the one word
 /// `--name=value`; options stand in any order, each at most once. A value is a number in decimal digits without a
 /// leading zero, in the option's range; that of `--gateway` is `http` or `scgi`, that of `--order` is `free` or
-/// `held`, that of `--check` is `run` or `laws`, that of `--drain` is `input`. All other words are no command, and neither
+/// `held`, that of `--check` is `run` or `laws`. All other words are no command, and neither
 /// are those of a run with a tick and native workers, or with an order and no native workers, those of a server with
 /// two of workers for jobs, SCGI and an application server, or with a patience and no application server, or those of a
-/// check of laws with turns or moves. A server that is drained may leave out its connections.
+/// check of laws with turns or moves.
 ///
 /// # Errors
 ///
@@ -278,42 +278,11 @@ fn server_answers_by(matches: &ArgMatches) -> Option<ServeAnswers>
     passed_by(matches)
 }
 
-/// What drains a server, by its name: true for its input.
-fn drain_named(name: &str) -> Option<bool>
-    ensures { result ≡ drain_named name.now }
-{
-    match name {
-        "input" => Some(true),
-        _ => None,
-    }
-}
-
-/// Whether the end of its input drains a server.
-fn drain_by(matches: &ArgMatches) -> Option<bool>
-    ensures { result ≡ drain_by (λ n. first_of n (rows_of (found_of matches.now))) }
-{
-    match given(DRAIN, matches) {
-        Some(name) => drain_named(name),
-        None => Some(false),
-    }
-}
-
-/// The connections that a server is asked for.
-fn conns_by(drains: bool, matches: &ArgMatches) -> Option<u64>
-    ensures { result ≡ conns_by drains (λ n. first_of n (rows_of (found_of matches.now))) }
-{
-    if drains {
-        return number_by(DRAINED_CONNS, matches);
-    }
-    number_by(CONNS, matches)
-}
-
 fn serve_by(matches: &ArgMatches) -> Option<NamedCommand>
     ensures { result ≡ serve_by (λ n. first_of n (rows_of (found_of matches.now))) }
 {
     let port = number_by(PORT, matches)?;
-    let drains = drain_by(matches)?;
-    let conns = conns_by(drains, matches)?;
+    let conns = number_by(CONNS, matches)?;
     let pool = number_by(POOL, matches)?;
     let idle = number_by(IDLE, matches)?;
     let answers = server_answers_by(matches)?;
@@ -323,7 +292,6 @@ fn serve_by(matches: &ArgMatches) -> Option<NamedCommand>
         pool: pool as u32,
         idle,
         answers,
-        drains,
     }))
 }
 

@@ -27,8 +27,6 @@ pub enum CommandOption {
     Order(&'static str),
     /// The option of this name, whose value is the name of a check.
     Check(&'static str),
-    /// The option of this name, whose value names what drains a server.
-    Drain(&'static str),
 }
 
 /// A command: its name, and its options.
@@ -115,14 +113,6 @@ pub const CONNS: NumberOption = NumberOption {
     usual: None,
 };
 
-/// The connections of a server that is drained: where nothing is said, the most.
-pub const DRAINED_CONNS: NumberOption = NumberOption {
-    name: "conns",
-    least: 1,
-    most: MOST_CONNECTIONS,
-    usual: Some(MOST_CONNECTIONS),
-};
-
 /// The most connections of a server at a time.
 pub const POOL: NumberOption = NumberOption {
     name: "pool",
@@ -163,9 +153,6 @@ pub const PATIENCE: NumberOption = NumberOption {
     usual: Some(USUAL_PATIENCE),
 };
 
-/// The option that names what drains a server.
-pub const DRAIN: &str = "drain";
-
 /// The option that names what a server speaks with its peers.
 pub const GATEWAY: &str = "gateway";
 
@@ -190,7 +177,7 @@ const OF_RUN: [CommandOption; 5] = [
 
 const OF_WSGI: [CommandOption; 1] = [CommandOption::Gateway(GATEWAY)];
 
-const OF_SERVE: [CommandOption; 9] = [
+const OF_SERVE: [CommandOption; 8] = [
     CommandOption::Number(PORT),
     CommandOption::Number(CONNS),
     CommandOption::Number(POOL),
@@ -199,7 +186,6 @@ const OF_SERVE: [CommandOption; 9] = [
     CommandOption::Number(JOBS),
     CommandOption::Number(PASS),
     CommandOption::Number(PATIENCE),
-    CommandOption::Drain(DRAIN),
 ];
 
 const OF_STORM: [CommandOption; 1] = [CommandOption::Number(SIZE)];

@@ -76,7 +76,6 @@ const NAMED: &[(&str, NamedCommand)] = &[
             pool: 100,
             idle: 60000,
             answers: ServeAnswers::Application(GatewayKind::Http),
-            drains: false,
         }),
     ),
     (
@@ -87,7 +86,6 @@ const NAMED: &[(&str, NamedCommand)] = &[
             pool: 100,
             idle: 60000,
             answers: ServeAnswers::Application(GatewayKind::Scgi),
-            drains: false,
         }),
     ),
     (
@@ -98,7 +96,6 @@ const NAMED: &[(&str, NamedCommand)] = &[
             pool: 1024,
             idle: 3600000,
             answers: ServeAnswers::Application(GatewayKind::Http),
-            drains: false,
         }),
     ),
     (
@@ -109,7 +106,6 @@ const NAMED: &[(&str, NamedCommand)] = &[
             pool: 100,
             idle: 1000,
             answers: ServeAnswers::Jobs(1),
-            drains: false,
         }),
     ),
     (
@@ -120,7 +116,6 @@ const NAMED: &[(&str, NamedCommand)] = &[
             pool: 100,
             idle: 60000,
             answers: ServeAnswers::Jobs(16),
-            drains: false,
         }),
     ),
     (
@@ -134,11 +129,10 @@ const NAMED: &[(&str, NamedCommand)] = &[
                 port: 9000,
                 patience: 60000,
             }),
-            drains: false,
         }),
     ),
     (
-        "serve --patience 3600000 --pass=1 --gateway=http --port 0 --drain input --conns 7",
+        "serve --patience 3600000 --pass=1 --gateway=http --port 0 --conns 7",
         NamedCommand::Serve(ServeOptions {
             port: 0,
             conns: 7,
@@ -148,18 +142,6 @@ const NAMED: &[(&str, NamedCommand)] = &[
                 port: 1,
                 patience: 3600000,
             }),
-            drains: true,
-        }),
-    ),
-    (
-        "serve --port 0 --drain=input",
-        NamedCommand::Serve(ServeOptions {
-            port: 0,
-            conns: 1000000,
-            pool: 100,
-            idle: 60000,
-            answers: ServeAnswers::Application(GatewayKind::Http),
-            drains: true,
         }),
     ),
     ("storm --size 19000", NamedCommand::Storm(19000)),
@@ -193,8 +175,6 @@ const NONE: &[&str] = &[
     "serve --port 1 --conns 1 --pass 2 --patience 0",
     "serve --port 1 --conns 1 --patience 5",
     "serve --port 1 --conns 1 --jobs 2 --patience 5",
-    "serve --port 1 --conns 1 --drain",
-    "serve --port 1 --conns 1 --drain output",
     "wsgi --gateway",
     "wsgi --gateway fcgi",
     "wsgi --gateway=HTTP",
