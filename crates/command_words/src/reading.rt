@@ -24,10 +24,10 @@ use std::alloc::{AllocError, Global};
 /// The command is the first word. Each option is one word `--name` followed by one word, or the one word
 /// `--name=value`; options stand in any order, each at most once. A value is a number in decimal digits without a
 /// leading zero, in the option's range; that of `--gateway` is `http` or `scgi`, that of `--order` is `free` or
-/// `held`, that of `--check` is `run` or `laws`. All other words are no command, and neither
-/// are those of a run with a tick and native workers, or with an order and no native workers, those of a server with
-/// two of workers for jobs, SCGI and an application server, or with a patience and no application server, or those of a
-/// check of laws with turns or moves.
+/// `held`, that of `--check` is `run` or `laws`. All other words are no command, and neither are those of a run with a
+/// tick and native workers, or with an order and no native workers, those of a server with two of workers for jobs, SCGI
+/// and an application server, or with a patience and no application server, or those of a check of laws with turns or
+/// moves.
 ///
 /// # Errors
 ///
