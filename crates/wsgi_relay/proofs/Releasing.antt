@@ -30,11 +30,11 @@ use Rattle.wsgi_relay.specs.Giving.{Gives, IsGivenTo}
 use Rattle.wsgi_relay.specs.Laws.{next_most}
 use Rattle.wsgi_relay.specs.Relaying.{Agrees, Asked, CameTo, Given, HasStream, IsAnswered, asked_by, is_for_head, owner_of}
 use Rattle.wsgi_relay.specs.Talks.{next_of, rank_of, relay_protocol, request_of}
-use Rattle.wsgi_relay.specs.Tied.{Awaits, HaveAsked, HaveAskedBut, HaveAskedOnce, IsKept, IsLate, IsUnderWay}
+use Rattle.wsgi_relay.specs.Tied.{Awaits, HaveAsked, HaveAskedBut, HaveAskedOnce, IsKept, IsLate, IsOver, IsUnderWay, exchange_in}
 use Rattle.wsgi_relay.specs.declared.exchange.Exchange.{Exchange}
 use Rattle.wsgi_relay.specs.declared.relay_talk.RelayTalk.{RelayTalk}
 use Rattle.wsgi_relay.proofs.Keeping.{given_here, given_stays}
-use Rattle.wsgi_relay.proofs.Tying.{OnlyStream}
+use Rattle.wsgi_relay.proofs.Tying.{OnlyStream, same_some}
 
 -- ---- the stream is closed
 
@@ -194,3 +194,9 @@ module _ (w : DialMeaning) (asked : List Asked) (list : List ((ℕ × ℕ) × Gi
 -- the client that waits has a request
 pub awaits_asked : (a : Asked) (g : Client RelayTalk) → Awaits a g → HasAsked g.talk
 awaits_asked a g w = subst (λ (o : Option (List Pair × List ℕ)). IsSome o) (sym w.request) refl
+
+-- ---- the exchange that is over
+
+-- it is the one in the slot
+pub over_at : (m : DialMeaning) (exchanges : List (Option Exchange)) (slot : ℕ) (far : Far) (x : Exchange) (o : IsOver m exchanges slot far) → exchange_in exchanges slot ≡ Some x → OfSlot m slot (λ s. HasShown far s x) ⊎ IsLate far m x
+over_at m exchanges slot far x o here = subst (λ (y : Exchange). OfSlot m slot (λ s. HasShown far s y) ⊎ IsLate far m y) (same_some (exchange_in exchanges slot) o.exchange x o.here here) o.come
