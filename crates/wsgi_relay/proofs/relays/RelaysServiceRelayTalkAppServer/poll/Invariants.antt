@@ -2,7 +2,7 @@ use Rattle.std.proofs.Common.{◌≡◌}
 use Rattle.stream_server.specs.Tables.{IsListed}
 use Rattle.wsgi_relay.specs.Accounts.{given_in}
 use Rattle.wsgi_relay.specs.Tied.{IsKept, IsTied}
-use Rattle.wsgi_relay.proofs.relays.RelaysServiceRelayTalk.poll.Given as goal
+use Rattle.wsgi_relay.proofs.relays.RelaysServiceRelayTalkAppServer.poll.Given as goal
 
 abbrev pub invariant-loop : goal.invariant-loop
 invariant-loop g l = record {

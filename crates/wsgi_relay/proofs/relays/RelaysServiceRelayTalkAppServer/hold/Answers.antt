@@ -11,7 +11,7 @@ use Rattle.wsgi_relay.specs.declared.relay_talk.RelayTalk.{RelayTalk}
 use Rattle.wsgi_relay.proofs.Adding.{asked_more, asked_once, asked_once_either, awaits_on}
 use Rattle.wsgi_relay.proofs.Talking.{at_ok, is_held}
 use Rattle.wsgi_relay.proofs.Tying.{tied_more}
-use Rattle.wsgi_relay.proofs.relays.RelaysServiceRelayTalk.hold.Goals as goal
+use Rattle.wsgi_relay.proofs.relays.RelaysServiceRelayTalkAppServer.hold.Goals as goal
 
 pub hand_on-requires-clause-wants : goal.hand_on-requires-clause-wants
 hand_on-requires-clause-wants g c = c.requires.wants
