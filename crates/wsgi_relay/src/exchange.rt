@@ -1,5 +1,5 @@
 //! One request that was handed on over a stream, and the reply that comes.
-ghost use Rattle.std.specs.Prelude.{◌≡◌, ◌+◌, ◌<◌, ◌≤◌, ◌++◌, ℕ, List, Ok, Some, drop, if◌then◌else◌, length, IfOk, IfSome, OnOk};
+ghost use Rattle.std.specs.Prelude.{◌≡◌, ◌+◌, ◌^◌, ◌<◌, ◌≤◌, ◌++◌, ℕ, List, Ok, Some, true, drop, if◌then◌else◌, length, IfOk, IfSome, OnOk};
 ghost use Rattle.stream_dial.specs.Dials.{ClosesIn, IsOpen, ReadsIn, WritesIn};
 ghost use Rattle.relay_core.specs.Replies.{IsReading, relayed};
 ghost use Rattle.wsgi_relay.specs.Exchanging.{GoesOnIn, HasFed, HasShown, IsBegun, IsDecided, IsExchanging, IsHeard, IsSameExchange, IsSent, OfSlot};
