@@ -1,12 +1,12 @@
 -- One exchange, step by step.
-use Rattle.std.proofs.Common.{◌≡◌, ◌≢◌, ◌⊎◌, inl, inr, ℕ, zero, suc, ◌+◌, ◌-◌, ◌^◌, ◌<◌, ◌≤◌, Bool, true, false, List, [], ◌∷◌, ◌++◌, length, take, drop, Option, Some, None, IfSome, refl, sym, ap, ◌∙◌, subst, arith, length-append, is_some, if◌then◌else◌}
+use Rattle.std.proofs.Common.{◌≡◌, inl, inr, ℕ, zero, suc, ◌+◌, ◌-◌, ◌^◌, ◌<◌, ◌≤◌, Bool, true, false, List, [], ◌∷◌, ◌++◌, length, take, drop, Option, Some, None, IfSome, refl, sym, ap, ◌∙◌, subst, arith, length-append, is_some, if◌then◌else◌}
 use Rattle.std.proofs.Math.Seq.{take-add}
 use Rattle.gv_values.specs.Counts.{HasRisen}
 use Rattle.gv_io.specs.Streams.{appended}
 use Rattle.stream_net.specs.declared.net.ReadEnd.{ReadEnd}
 use Rattle.stream_net.specs.declared.net.ReadEnd.TheVariants as R
-use Rattle.stream_net.specs.declared.net.WriteEnd.{WriteEnd}
 use Rattle.stream_net.specs.declared.net.WriteEnd.TheVariants as W
+use Rattle.stream_net.specs.declared.net.Quiet.TheVariants.{ByRead, ByWrite}
 use Rattle.stream_net.specs.Net.{Connection}
 use Rattle.stream_net.specs.Reads.{after_read}
 use Rattle.stream_net.specs.Writes.{after_write}
@@ -136,6 +136,9 @@ module _ (v w : DialMeaning) (slot : ℕ) (o : IsOpen v slot) (x : Exchange) whe
         of_written v w slot o W.Memory bytes h (λ s. IsExchanging s x body) (λ s. IsExchanging s x body)
         (λ s faults failed unfailed e. write_lacked_here s x body e bytes w.moment faults (unfailed (λ same. cc))) i
 
+    pub write_rests : WritesIn v w slot W.WouldBlock bytes → OfSlot w slot (λ s. s.quiet ≡ ByWrite)
+    write_rests h = of_written v w slot o W.WouldBlock bytes h (λ s. IsExchanging s x body) (λ s. s.quiet ≡ ByWrite) (λ s faults failed unfailed e. refl) i
+
     pub write_failed : WritesIn v w slot W.Failed bytes → OfSlot w slot (λ s. IsExchanging s (record x { failed = true }) body)
     write_failed h =
         of_written v w slot o W.Failed bytes h (λ s. IsExchanging s x body) (λ s. IsExchanging s (record x { failed = true }) body)
@@ -161,6 +164,9 @@ module _ (v w : DialMeaning) (slot : ℕ) (o : IsOpen v slot) (x : Exchange) whe
     pub read_blocked : ReadsIn v w slot R.WouldBlock bytes → OfSlot w slot (λ s. IsHeard s x)
     read_blocked h =
         of_read v w slot o R.WouldBlock bytes h (λ s. IsHeard s x) (λ s. IsHeard s x) (λ s faults failed unfailed e. read_blocked_here s x e bytes w.moment faults (unfailed (λ same. cc))) i
+
+    pub read_rests : ReadsIn v w slot R.WouldBlock bytes → OfSlot w slot (λ s. s.quiet ≡ ByRead)
+    read_rests h = of_read v w slot o R.WouldBlock bytes h (λ s. IsHeard s x) (λ s. s.quiet ≡ ByRead) (λ s faults failed unfailed e. refl) i
 
     pub read_failed : ReadsIn v w slot R.Failed bytes → OfSlot w slot (λ s. IsHeard s (record x { failed = true }))
     read_failed h =

@@ -1,4 +1,4 @@
-use Rattle.std.proofs.Common.{◌≡◌, Ok, ap, ◌∙◌, arith}
+use Rattle.std.proofs.Common.{◌≡◌, Ok, arith}
 use Rattle.wsgi_relay.specs.declared.exchange.Heard.TheVariants.{Bytes}
 use Rattle.wsgi_relay.proofs.Sending.{same_twice, too_many}
 use Rattle.wsgi_relay.proofs.Streaming.{goes_on_twice}

@@ -1,8 +1,8 @@
-use Rattle.std.proofs.Common.{◌≡◌, ℕ, ◌<◌, List, Ok, length, take, true, refl, sym, ◌∙◌, subst, arith}
+use Rattle.std.proofs.Common.{◌≡◌, ◌<◌, length, take, true, refl, sym, ◌∙◌, subst, arith}
 use Rattle.std.proofs.lemmas.List.{length-take}
 use Rattle.relay_core.specs.declared.reader.Far.{Far}
 use Rattle.wsgi_relay.specs.Exchanging.{HasShown, OfSlot}
-use Rattle.wsgi_relay.proofs.Sending.{fed_more, got_more, read_blocked, read_ended, read_failed, read_sent, shown_at_end, shown_broken}
+use Rattle.wsgi_relay.proofs.Sending.{fed_more, got_more, read_blocked, read_ended, read_failed, read_rests, read_sent, shown_at_end, shown_broken}
 use Rattle.wsgi_relay.proofs.exchange.receive_some.Goals as goal
 
 pub returns-in_err-feed-in-Got-clause-sent : goal.returns-in_err-feed-in-Got-clause-sent
@@ -68,3 +68,7 @@ returns-in-Failed-clause-over g c = λ far is.
     let same : Far.Broken ≡ far = cc in
     subst (λ (f : Far). OfSlot (g.D.Dial.meaning c.read_some.new.dial) c.args.slot (λ s. HasShown f s (record c.args.exchange.now { failed = true }))) same
     (shown_broken (g.D.Dial.meaning c.args.dial.now) (g.D.Dial.meaning c.read_some.new.dial) c.args.slot c.requires.opened c.args.exchange.now c.requires.heard _ c.in-Failed.ensures.reads)
+
+pub returns-in-WouldBlock-clause-waits : goal.returns-in-WouldBlock-clause-waits
+returns-in-WouldBlock-clause-waits g c = λ _.
+    read_rests (g.D.Dial.meaning c.args.dial.now) (g.D.Dial.meaning c.read_some.new.dial) c.args.slot c.requires.opened c.args.exchange.now c.requires.heard _ c.in-WouldBlock.ensures.reads

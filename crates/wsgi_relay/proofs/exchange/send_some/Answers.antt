@@ -1,5 +1,5 @@
 use Rattle.std.proofs.Common.{refl, arith}
-use Rattle.wsgi_relay.proofs.Sending.{took, write_blocked, write_failed, write_lacked}
+use Rattle.wsgi_relay.proofs.Sending.{took, write_blocked, write_failed, write_lacked, write_rests}
 use Rattle.wsgi_relay.proofs.exchange.send_some.Goals as goal
 
 pub returns-in-Took-clause-exchanging : goal.returns-in-Took-clause-exchanging
@@ -25,3 +25,7 @@ overflow_add-exchange g c =
     let short = (c.requires.exchanging o.number o.is).sent.short in
     let fits = c.in-Took.ensures.fits c.in-Took.count refl in
     omega (arith, short, fits)
+
+pub returns-in-WouldBlock-clause-rests : goal.returns-in-WouldBlock-clause-rests
+returns-in-WouldBlock-clause-rests g c = λ _ _.
+    write_rests (g.D.Dial.meaning c.args.dial.now) (g.D.Dial.meaning c.write_left.new.dial) c.args.slot c.requires.opened c.args.exchange.now c.args.body.now c.requires.exchanging _ c.in-WouldBlock.ensures.writes
