@@ -1,23 +1,25 @@
 -- One exchange, step by step.
-use Rattle.std.proofs.Common.{◌≡◌, ◌≢◌, ◌⊎◌, inl, inr, ℕ, zero, suc, ◌+◌, ◌-◌, ◌^◌, ◌<◌, ◌≤◌, Bool, true, false, List, [], ◌∷◌, ◌++◌, length, take, drop, Option, Some, None, IfSome, refl, sym, ap, ◌∙◌, subst, arith, length-append, is_some, if◌then◌else◌}
+use Rattle.std.proofs.Common.{◌≡◌, inl, inr, ℕ, zero, suc, ◌+◌, ◌-◌, ◌^◌, ◌<◌, ◌≤◌, Bool, true, false, List, [], ◌∷◌, ◌++◌, length, take, drop, Option, Some, None, IfSome, refl, sym, ap, ◌∙◌, subst, arith, length-append, is_some, if◌then◌else◌}
 use Rattle.std.proofs.Math.Seq.{take-add}
 use Rattle.gv_values.specs.Counts.{HasRisen}
 use Rattle.gv_io.specs.Streams.{appended}
 use Rattle.stream_net.specs.declared.net.ReadEnd.{ReadEnd}
 use Rattle.stream_net.specs.declared.net.ReadEnd.TheVariants as R
-use Rattle.stream_net.specs.declared.net.WriteEnd.{WriteEnd}
 use Rattle.stream_net.specs.declared.net.WriteEnd.TheVariants as W
+use Rattle.stream_net.specs.declared.net.Quiet.TheVariants.{ByRead, ByWrite}
 use Rattle.stream_net.specs.Net.{Connection}
 use Rattle.stream_net.specs.Reads.{after_read}
 use Rattle.stream_net.specs.Writes.{after_write}
 use Rattle.stream_dial.specs.Dials.{DialMeaning, IsOpen, ReadsIn, WritesIn}
 use Rattle.relay_core.specs.Replies.{IsReading, relayed}
 use Rattle.relay_core.specs.declared.limits.TheConstants.{MOST_REPLY_BODY, MOST_REPLY_HEAD}
-use Rattle.relay_core.specs.declared.reader.Far.TheVariants.{GoesOn, Ended, Broken}
+use Rattle.wsgi_core.specs.declared.reply.Reply.{Reply}
+use Rattle.relay_core.specs.declared.reader.Far.{Far}
+use Rattle.relay_core.specs.declared.reader.Far.TheVariants.{GoesOn, Ended, Broken, Late}
 use Rattle.relay_core.specs.declared.reader.ReplyReader.{ReplyReader}
-use Rattle.relay_core.proofs.ReplyLaws.{undecided-small}
+use Rattle.relay_core.proofs.ReplyLaws.{over-decided, undecided-small}
 use Rattle.wsgi_relay.specs.declared.exchange.Exchange.{Exchange}
-use Rattle.wsgi_relay.specs.Exchanging.{HasFed, HasShown, IsExchanging, IsHeard, IsNoted, IsSameExchange, IsSent, OfSlot}
+use Rattle.wsgi_relay.specs.Exchanging.{HasFed, HasShown, IsDecided, IsExchanging, IsHeard, IsNoted, IsSameExchange, IsSent, OfSlot}
 use Rattle.wsgi_relay.proofs.Streaming.{of_read, of_written}
 
 -- ---- what is left
@@ -40,6 +42,15 @@ told_more (Some l) all piece more is e = ap (λ (z : List ℕ). z ++ piece) e �
 risen_some : (old new : ℕ) → HasRisen old new → 0 < new
 risen_some old new (inl less) = omega arith
 risen_some old new (inr last) = omega arith
+
+-- so much was sent of the same message
+sent_same : (s : Connection) (x y : Exchange) (body : List ℕ) → y.head ≡ x.head → y.sent ≡ x.sent → IsSent s x body → IsSent s y body
+sent_same s x y body same_head same_sent i = record {
+  short = subst (λ (h : List ℕ). length h + length body < 2 ^ 64) (sym same_head) i.short;
+  within = subst (λ (h : List ℕ). y.sent ≤ length h + length body) (sym same_head) (subst (λ (n : ℕ). n ≤ length x.head + length body) (sym same_sent) i.within);
+  written = subst (λ (h : List ℕ). IfSome s.written (λ out. out ≡ take y.sent (h ++ body))) (sym same_head)
+      (subst (λ (n : ℕ). IfSome s.written (λ out. out ≡ take n (x.head ++ body))) (sym same_sent) i.written);
+}
 
 module _ (s : Connection) (x : Exchange) where
   -- as many faults as before are noted
@@ -125,14 +136,19 @@ module _ (v w : DialMeaning) (slot : ℕ) (o : IsOpen v slot) (x : Exchange) whe
         of_written v w slot o W.Memory bytes h (λ s. IsExchanging s x body) (λ s. IsExchanging s x body)
         (λ s faults failed unfailed e. write_lacked_here s x body e bytes w.moment faults (unfailed (λ same. cc))) i
 
+    pub write_rests : WritesIn v w slot W.WouldBlock bytes → OfSlot w slot (λ s. s.quiet ≡ ByWrite)
+    write_rests h = of_written v w slot o W.WouldBlock bytes h (λ s. IsExchanging s x body) (λ s. s.quiet ≡ ByWrite) (λ s faults failed unfailed e. refl) i
+
     pub write_failed : WritesIn v w slot W.Failed bytes → OfSlot w slot (λ s. IsExchanging s (record x { failed = true }) body)
     write_failed h =
         of_written v w slot o W.Failed bytes h (λ s. IsExchanging s x body) (λ s. IsExchanging s (record x { failed = true }) body)
         (λ s faults failed unfailed e. write_failed_here s x body e bytes w.moment faults (failed refl)) i
 
-  pub read_sent : (end : ReadEnd) (bytes : List ℕ) → ReadsIn v w slot end bytes → (body : List ℕ) → OfSlot v slot (λ s. IsSent s x body) → OfSlot w slot (λ s. IsSent s x body)
-  read_sent end bytes h body i =
-      of_read v w slot o end bytes h (λ s. IsSent s x body) (λ s. IsSent s x body) (λ s faults failed unfailed e. read_sent_here s x body end bytes w.moment faults e) i
+  pub read_sent : (y : Exchange) (end : ReadEnd) (bytes : List ℕ) → ReadsIn v w slot end bytes → y.head ≡ x.head → y.sent ≡ x.sent → (body : List ℕ) → OfSlot v slot (λ s. IsSent s x body)
+      → OfSlot w slot (λ s. IsSent s y body)
+  read_sent y end bytes h same_head same_sent body i =
+      of_read v w slot o end bytes h (λ s. IsSent s x body) (λ s. IsSent s y body)
+      (λ s faults failed unfailed e. sent_same (after_read end bytes w.moment faults s) x y body same_head same_sent (read_sent_here s x body end bytes w.moment faults e)) i
 
   module _ (i : OfSlot v slot (λ s. IsHeard s x)) (bytes : List ℕ) where
     pub got_more : (n : ℕ) (r : ReplyReader) → ReadsIn v w slot (R.Got n) bytes → ((fed : List ℕ) → IsReading fed x.reader → IsReading (fed ++ take n bytes) r)
@@ -148,6 +164,9 @@ module _ (v w : DialMeaning) (slot : ℕ) (o : IsOpen v slot) (x : Exchange) whe
     pub read_blocked : ReadsIn v w slot R.WouldBlock bytes → OfSlot w slot (λ s. IsHeard s x)
     read_blocked h =
         of_read v w slot o R.WouldBlock bytes h (λ s. IsHeard s x) (λ s. IsHeard s x) (λ s faults failed unfailed e. read_blocked_here s x e bytes w.moment faults (unfailed (λ same. cc))) i
+
+    pub read_rests : ReadsIn v w slot R.WouldBlock bytes → OfSlot w slot (λ s. s.quiet ≡ ByRead)
+    read_rests h = of_read v w slot o R.WouldBlock bytes h (λ s. IsHeard s x) (λ s. s.quiet ≡ ByRead) (λ s faults failed unfailed e. refl) i
 
     pub read_failed : ReadsIn v w slot R.Failed bytes → OfSlot w slot (λ s. IsHeard s (record x { failed = true }))
     read_failed h =
@@ -201,3 +220,16 @@ too_many x n long h =
     let small = undecided-small x.reader.is_head h.fed (h.undecided (omega (arith, long))) in
     let many = h.many in
     omega (arith, small, many, long)
+
+-- a server that goes on no more has a reply, and one that is decided is there
+pub no_reply : (x : Exchange) (far : Far) (fed : List ℕ) → IsReading fed x.reader → (far ≡ GoesOn → IsDecided x) → relayed x.reader.is_head far fed ≡ None → ⊥
+no_reply x far fed reading decided e = by far decided e
+  where
+    none_there : (o : Option Reply) → is_some o ≡ true → o ≡ None → ⊥
+    none_there o there none = let no : is_some o ≡ false = ap is_some none in absurd (cc)
+
+    by : (f : Far) → (f ≡ GoesOn → IsDecided x) → relayed x.reader.is_head f fed ≡ None → ⊥
+    by GoesOn decided e = none_there _ (decided refl fed reading) e
+    by Ended decided e = none_there _ (over-decided x.reader.is_head Ended fed (λ same. cc)) e
+    by Broken decided e = none_there _ (over-decided x.reader.is_head Broken fed (λ same. cc)) e
+    by Late decided e = none_there _ (over-decided x.reader.is_head Late fed (λ same. cc)) e

@@ -3,13 +3,13 @@ use Rattle.stream_dial.specs.Dials.{IsOpen}
 use Rattle.wsgi_relay.specs.Exchanging.{GoesOnIn, IsExchanging, IsSameExchange, OfSlot}
 use Rattle.wsgi_relay.proofs.exchange.send.Given as goal
 
-abbrev pub invariant-loop-exchange : goal.invariant-loop-exchange
-invariant-loop-exchange g l = record {
+abbrev pub invariant-loop-dial : goal.invariant-loop-dial
+invariant-loop-dial g l = record {
   opened : IsOpen (g.D.Dial.meaning l.dial) l.slot;
   only : GoesOnIn (g.D.Dial.meaning l.fn.dial) (g.D.Dial.meaning l.dial) l.slot;
   same : IsSameExchange l.fn.exchange l.exchange;
   exchanging : OfSlot (g.D.Dial.meaning l.dial) l.slot (λ s. IsExchanging s l.exchange l.body);
 }
 
-abbrev pub decreases-loop-exchange : goal.decreases-loop-exchange
-decreases-loop-exchange g l = (length l.exchange.head + length l.body) - l.exchange.sent
+abbrev pub decreases-loop-dial : goal.decreases-loop-dial
+decreases-loop-dial g l = (length l.exchange.head + length l.body) - l.exchange.sent

@@ -1,4 +1,4 @@
-use Rattle.std.proofs.Common.{◌++◌, List, ℕ, drop, ap, sym, subst, ◌∙◌}
+use Rattle.std.proofs.Common.{◌≡◌, ◌++◌, List, ℕ, drop, subst}
 use Rattle.stream_dial.specs.Dials.{WritesIn}
 use Rattle.wsgi_relay.proofs.Sending.{drop_both}
 use Rattle.wsgi_relay.proofs.Streaming.{open_still, write_goes_on}
@@ -13,3 +13,10 @@ returns-clause-opened g c =
 pub returns-clause-only : goal.returns-clause-only
 returns-clause-only g c =
     write_goes_on (g.D.Dial.meaning c.args.dial.now) (g.D.Dial.meaning c.write.new.self) c.args.slot c.requires.opened _ _ c.write.ensures.writes
+
+pub returns-clause-writes : goal.returns-clause-writes
+returns-clause-writes g c =
+    let x = c.args.exchange.now in
+    let both = drop_both x.sent x.head c.args.body.now in
+    let is : c.left_of-first.result.now ++ c.left_of-second.result.now ≡ drop x.sent (x.head ++ c.args.body.now) = cc in
+    subst (λ (bytes : List ℕ). WritesIn (g.D.Dial.meaning c.args.dial.now) (g.D.Dial.meaning c.write.new.self) c.args.slot c.write.result bytes) is c.write.ensures.writes
