@@ -95,12 +95,12 @@ new_of v w x slot patience top a old new o only b same until top_is timed = reco
     is : new.until ≡ min (w.moment + patience) top
     is = same.until ∙ until
 
+    last_of : slice_index_or (v.opened ++ w.moment ∷ []) (length v.streams) 0 ≡ w.moment
+    last_of = ap (λ (n : ℕ). slice_index_or (v.opened ++ w.moment ∷ []) n 0) (sym timed) ∙ push_last v.opened w.moment 0
+
     opened : slice_index_or x.opened (length v.streams) 0 ≡ w.moment
     opened = ap (λ (os : List ℕ). slice_index_or os (length v.streams) 0) (only.none.opened ∙ o.opened)
         ∙ last_of
-
-    last_of : slice_index_or (v.opened ++ w.moment ∷ []) (length v.streams) 0 ≡ w.moment
-    last_of = ap (λ (n : ℕ). slice_index_or (v.opened ++ w.moment ∷ []) n 0) (sym timed) ∙ push_last v.opened w.moment 0
 
 -- ---- all of it
 

@@ -30,11 +30,11 @@ use Rattle.wsgi_relay.specs.Giving.{Gives, IsGivenTo}
 use Rattle.wsgi_relay.specs.Laws.{next_most}
 use Rattle.wsgi_relay.specs.Relaying.{Agrees, Asked, CameTo, Given, HasStream, IsAnswered, asked_by, is_for_head, owner_of}
 use Rattle.wsgi_relay.specs.Talks.{next_of, rank_of, relay_protocol, request_of}
-use Rattle.wsgi_relay.specs.Tied.{Awaits, HaveAsked, HaveAskedBut, HaveAskedOnce, IsKept, IsLate, IsUnderWay}
+use Rattle.wsgi_relay.specs.Tied.{Awaits, HaveAsked, HaveAskedBut, HaveAskedOnce, IsKept, IsLate, IsOver, IsUnderWay, exchange_in}
 use Rattle.wsgi_relay.specs.declared.exchange.Exchange.{Exchange}
 use Rattle.wsgi_relay.specs.declared.relay_talk.RelayTalk.{RelayTalk}
-use Rattle.wsgi_relay.proofs.Keeping.{given_here, given_stays}
-use Rattle.wsgi_relay.proofs.Tying.{OnlyStream}
+use Rattle.wsgi_relay.proofs.Keeping.{given_here, given_stays, kept_changed}
+use Rattle.wsgi_relay.proofs.Tying.{OnlyStream, same_some}
 
 -- ---- the stream is closed
 
@@ -153,7 +153,7 @@ reply_is conn g reply list a w plain app fits =
     let told : app number given.environ given.body ≡ reply = fits.given_is number given (given_here conn number given list) is_plain_too in
     subst (λ (o : Option (List Pair × List ℕ)). IsReplyTo app number o reply) (sym w.request) (sym told ∙ (λ i. app number ((sym request) i).0 ((sym request) i).1))
 
-module _ (w : DialMeaning) (asked : List Asked) (list : List ((ℕ × ℕ) × Given)) (table now : SeenTable RelayTalk) (conn : ℕ) (reply : Reply) (was : Client RelayTalk) (a : Asked) (awaits : Awaits a was) (plain : list_all is_plain a.environ ≡ true)
+module _ (asked : List Asked) (list : List ((ℕ × ℕ) × Given)) (table now : SeenTable RelayTalk) (conn : ℕ) (reply : Reply) (was : Client RelayTalk) (a : Asked) (awaits : Awaits a was) (plain : list_all is_plain a.environ ≡ true)
     (row : IsListed table conn (Some was)) (number_is : was.conn ≡ conn) (relists : Relists table now conn None) (count : client_count now + 1 ≡ client_count table) where
   abbrev after : List ((ℕ × ℕ) × Given)
   after = ((conn, answered_of was.talk.session), given_on was.talk.session reply) ∷ list
@@ -194,3 +194,22 @@ module _ (w : DialMeaning) (asked : List Asked) (list : List ((ℕ × ℕ) × Gi
 -- the client that waits has a request
 pub awaits_asked : (a : Asked) (g : Client RelayTalk) → Awaits a g → HasAsked g.talk
 awaits_asked a g w = subst (λ (o : Option (List Pair × List ℕ)). IsSome o) (sym w.request) refl
+
+-- ---- the exchange that is over
+
+-- it is the one in the slot
+pub over_at : (m : DialMeaning) (exchanges : List (Option Exchange)) (slot : ℕ) (far : Far) (x : Exchange) (o : IsOver m exchanges slot far) → exchange_in exchanges slot ≡ Some x → OfSlot m slot (λ s. HasShown far s x) ⊎ IsLate far m x
+over_at m exchanges slot far x o here = subst (λ (y : Exchange). OfSlot m slot (λ s. HasShown far s y) ⊎ IsLate far m y) (same_some (exchange_in exchanges slot) o.exchange x o.here here) o.come
+
+-- the account once it is closed
+pub closed_kept : (patience : ℕ) (v w : DialMeaning) (asked : List Asked) (list : List ((ℕ × ℕ) × Given)) (listed : ℕ → Option (Client RelayTalk) → Type 0) (slot : ℕ) (x : Exchange) (u : IsUnderWay v patience asked listed slot x) → ClosesIn v w slot
+    → IsKept patience v asked (given_in list) → IsKept patience w asked (given_in list)
+closed_kept patience v w asked list listed slot x u closes kept =
+    let sent = kept.sent u.number u.live.accepted in
+    kept_changed patience v w asked (given_in list) kept u.number (closed_at w.moment (connection_at v.streams u.number)) (closes.closes u.number u.is).connections closes.none.opened u.live.accepted u.live.still_open record { plain = sent.plain; sent = sent.sent }
+
+-- what ties the service to its clients, with the account
+pub over_ties : {T : Type 0} (kept whole : Type 0) (ties owned : Client T → Type 0) (r : Polled T) → kept → TiesAfter r ⊥ (λ client. ties client × owned client) → TiesAfter r whole (λ client. ties client × kept × owned client)
+over_ties kept whole ties owned Nobody k h = absurd h
+over_ties kept whole ties owned (Released client) k h = (h.0, k, h.1)
+over_ties kept whole ties owned Memory k h = tt

@@ -56,7 +56,7 @@ module _ (v w : DialMeaning) (slot : ℕ) (h : GoesOnIn v w slot) (number : ℕ)
   -- the others are as they were
   pub others_same : (other : ℕ) → other ≢ number → connection_at w.streams other ≡ connection_at v.streams other
   others_same other apart =
-      ap (λ (cs : List Connection). connection_at cs other) (h.streams number at) ∙ get_or-set_other v.streams other number (connection_at w.streams number) absent_connection apart
+      ap (λ (cs : List Connection). connection_at cs other) (h.streams number at) ∙ get_or-set_other v.streams number other (connection_at w.streams number) absent_connection apart
 
   pub others_keep : (P : Connection → Type 0) (other : ℕ) → other ≢ number → P (connection_at v.streams other) → P (connection_at w.streams other)
   others_keep P other apart p = subst P (sym (others_same other apart)) p

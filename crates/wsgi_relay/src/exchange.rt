@@ -1,5 +1,6 @@
 //! One request that was handed on over a stream, and the reply that comes.
-ghost use Rattle.std.specs.Prelude.{◌≡◌, ◌+◌, ◌<◌, ◌≤◌, ◌++◌, ℕ, List, Ok, Some, drop, length, IfOk, IfSome, OnOk};
+ghost use Rattle.std.specs.Prelude.{◌≡◌, ◌+◌, ◌^◌, ◌<◌, ◌≤◌, ◌++◌, ℕ, List, Ok, None, Some, false, true, drop, if◌then◌else◌, length, IfOk, IfSome, OnOk};
+ghost use Rattle.stream_net.specs.declared.net.Quiet.TheVariants.{ByRead, ByWrite};
 ghost use Rattle.stream_dial.specs.Dials.{ClosesIn, IsOpen, ReadsIn, WritesIn};
 ghost use Rattle.relay_core.specs.Replies.{IsReading, relayed};
 ghost use Rattle.wsgi_relay.specs.Exchanging.{GoesOnIn, HasFed, HasShown, IsBegun, IsDecided, IsExchanging, IsHeard, IsSameExchange, IsSent, OfSlot};
@@ -80,6 +81,8 @@ fn left_of(piece: &[u8], sent: usize) -> &[u8]
 fn write_left<D: Dial>(dial: &mut D, slot: usize, exchange: &Exchange, body: &[u8]) -> WriteEnd
     requires opened { IsOpen (D.meaning dial.old) slot }
     requires left { exchange.now.sent < length exchange.now.head + length body.now }
+    ensures opened { IsOpen (D.meaning dial.new) slot }
+    ensures only { GoesOnIn (D.meaning dial.old) (D.meaning dial.new) slot }
     ensures writes { WritesIn (D.meaning dial.old) (D.meaning dial.new) slot result (drop exchange.now.sent (exchange.now.head ++ body.now)) }
     ensures fits { (n : ℕ) → result ≡ WriteEnd.Took n → exchange.now.sent + n ≤ length exchange.now.head + length body.now }
     ensures some { (n : ℕ) → result ≡ WriteEnd.Took n → 0 < n }
@@ -105,6 +108,7 @@ fn send_some<D: Dial>(
     ensures same { IsSameExchange exchange.old exchange.new }
     ensures exchanging { OfSlot (D.meaning dial.new) slot (λ s. IsExchanging s exchange.new body.now) }
     ensures more { result ≡ Ok true → exchange.old.sent < exchange.new.sent }
+    ensures rests { result ≡ Ok false → exchange.new.failed ≡ false → OfSlot (D.meaning dial.new) slot (λ s. s.quiet ≡ ByWrite) }
 {
     match write_left(dial, slot, exchange, body) {
         WriteEnd::Took(count) => {
@@ -120,8 +124,17 @@ fn send_some<D: Dial>(
     }
 }
 
-/// Writes what is left of the message, as far as it is taken at once. After a write that failed none follows, but a
-/// reply may stand there: an application may answer and close before it has read the body. After an `Err` memory ran out.
+/// Whether there is something left to be written, and no fault.
+fn is_unsent(exchange: &Exchange, body: &[u8]) -> bool
+    requires { length exchange.now.head + length body.now < 2 ^ 64 }
+    ensures left { result ≡ true → exchange.now.sent < length exchange.now.head + length body.now }
+    ensures none { result ≡ false → exchange.now.failed ≡ false → length exchange.now.head + length body.now ≤ exchange.now.sent }
+{
+    !exchange.failed && exchange.sent < exchange.head.len() + body.len()
+}
+
+/// Writes what is left of the message, until no byte is taken. After a write that failed none follows, but a reply may
+/// stand there: an application may answer and close before it has read the body. After an `Err` memory ran out.
 pub fn send<D: Dial>(
     dial: &mut D,
     slot: usize,
@@ -134,8 +147,9 @@ pub fn send<D: Dial>(
     ensures only { GoesOnIn (D.meaning dial.old) (D.meaning dial.new) slot }
     ensures same { IsSameExchange exchange.old exchange.new }
     ensures exchanging { OfSlot (D.meaning dial.new) slot (λ s. IsExchanging s exchange.new body.now) }
+    ensures rests { OnOk result (exchange.new.failed ≡ false → exchange.new.sent < length exchange.new.head + length body.now → OfSlot (D.meaning dial.new) slot (λ s. s.quiet ≡ ByWrite)) }
 {
-    while !exchange.failed && exchange.sent < exchange.head.len() + body.len() {
+    while is_unsent(exchange, body) {
         if !send_some(dial, slot, exchange, body)? {
             return Ok(());
         }
@@ -144,8 +158,23 @@ pub fn send<D: Dial>(
 }
 
 /// How far a server has come whose stream ended: behind a fault, what came may be cut off.
-fn far_at_end(failed: bool) -> Far {
+fn far_at_end(failed: bool) -> Far
+    ensures { result ≡ (if failed then Far.Broken else Far.Ended) }
+{
     if failed { Far::Broken } else { Far::Ended }
+}
+
+/// Reads once.
+fn read_some<D: Dial>(dial: &mut D, slot: usize, buffer: &mut [u8]) -> ReadEnd
+    requires opened { IsOpen (D.meaning dial.old) slot }
+    requires room { 0 < length buffer.old }
+    ensures opened { IsOpen (D.meaning dial.new) slot }
+    ensures only { GoesOnIn (D.meaning dial.old) (D.meaning dial.new) slot }
+    ensures reads { ReadsIn (D.meaning dial.old) (D.meaning dial.new) slot result buffer.new }
+    ensures some { (n : ℕ) → result ≡ ReadEnd.Got n → 0 < n }
+    ensures fits { (n : ℕ) → result ≡ ReadEnd.Got n → n ≤ length buffer.new }
+{
+    dial.read(slot, buffer)
 }
 
 /// Reads once, and feeds what came.
@@ -165,8 +194,9 @@ fn receive_some<D: Dial>(
     ensures heard { OnOk result (OfSlot (D.meaning dial.new) slot (λ s. IsHeard s exchange.new)) }
     ensures more { result ≡ Ok Heard.Bytes → (n : ℕ) → HasFed exchange.old n → HasFed exchange.new (n + 1) }
     ensures over { (far : Far) → result ≡ Ok (Heard.Over far) → OfSlot (D.meaning dial.new) slot (λ s. HasShown far s exchange.new) }
+    ensures waits { result ≡ Ok Heard.Nothing → OfSlot (D.meaning dial.new) slot (λ s. s.quiet ≡ ByRead) }
 {
-    match dial.read(slot, buffer) {
+    match read_some(dial, slot, buffer) {
         ReadEnd::Got(count) => {
             exchange.reader.feed(&buffer[..count])?;
             if exchange.reader.is_decided() {
@@ -200,6 +230,7 @@ fn receive<D: Dial>(
     ensures sent { (body : List ℕ) → OfSlot (D.meaning dial.old) slot (λ s. IsSent s exchange.old body) → OfSlot (D.meaning dial.new) slot (λ s. IsSent s exchange.new body) }
     ensures heard { OnOk result (OfSlot (D.meaning dial.new) slot (λ s. IsHeard s exchange.new)) }
     ensures far { (far : Far) → result ≡ Ok (Some far) → OfSlot (D.meaning dial.new) slot (λ s. HasShown far s exchange.new) }
+    ensures waits { result ≡ Ok None → OfSlot (D.meaning dial.new) slot (λ s. s.quiet ≡ ByRead) }
 {
     for count in 0..MOST_REPLY_HEAD + MOST_REPLY_BODY + 1 {
         match receive_some(dial, slot, exchange, buffer)? {
@@ -231,6 +262,7 @@ pub fn advance<D: Dial>(
     ensures sent { OfSlot (D.meaning dial.new) slot (λ s. IsSent s exchange.new body.now) }
     ensures exchanging { OnOk result (OfSlot (D.meaning dial.new) slot (λ s. IsExchanging s exchange.new body.now)) }
     ensures far { (far : Far) → result ≡ Ok (Some far) → OfSlot (D.meaning dial.new) slot (λ s. HasShown far s exchange.new) }
+    ensures waits { result ≡ Ok None → OfSlot (D.meaning dial.new) slot (λ s. s.quiet ≡ ByRead) }
 {
     send(dial, slot, exchange, body)?;
     receive(dial, slot, exchange, buffer)

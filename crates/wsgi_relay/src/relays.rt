@@ -341,6 +341,7 @@ impl Relays {
             → TiesAfter result ⊥ (λ client. IsTiedBut (D.meaning upstream.new.dial) upstream.new.patience self.new.askers.list self.new.exchanges.items (IsListed table.new) client.conn
             × HaveAskedBut self.new.askers.list (IsListed table.new) accepted client.conn (rank_of client.talk)) }
         ensures fits { (apps : Apps) → AllAgree (given_in self.new.replies.list) apps → AllAgree (given_in self.old.replies.list) apps }
+        ensures patience { upstream.new.patience ≡ upstream.old.patience }
         ensures askers { self.new.askers.list ≡ self.old.askers.list }
     {
         let Some(exchange) = take(&mut self.exchanges, slot) else {

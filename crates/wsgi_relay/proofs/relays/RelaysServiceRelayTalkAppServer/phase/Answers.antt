@@ -3,7 +3,7 @@ use Rattle.wsgi_core.specs.Session.{session}
 use Rattle.wsgi_core.specs.Steps.{asked_of}
 use Rattle.stream_server.proofs.Stepping.{is_closing}
 use Rattle.wsgi_relay.specs.Laws.{none_asked}
-use Rattle.wsgi_relay.proofs.relays.RelaysServiceRelayTalk.phase.Goals as goal
+use Rattle.wsgi_relay.proofs.relays.RelaysServiceRelayTalkAppServer.phase.Goals as goal
 
 pub returns : goal.returns
 returns g c = λ e app port fed ended taken at.

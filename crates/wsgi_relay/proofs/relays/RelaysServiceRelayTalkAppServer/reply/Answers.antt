@@ -3,7 +3,7 @@ use Rattle.wsgi_core.specs.Steps.{answered_of, begun_bytes, stopped_bytes}
 use Rattle.wsgi_relay.specs.Accounts.{given_in}
 use Rattle.wsgi_relay.specs.Talks.{request_of}
 use Rattle.wsgi_relay.proofs.Talking.{asked_handed, asked_nothing, asked_refused, asked_waits}
-use Rattle.wsgi_relay.proofs.relays.RelaysServiceRelayTalk.reply.Goals as goal
+use Rattle.wsgi_relay.proofs.relays.RelaysServiceRelayTalkAppServer.reply.Goals as goal
 
 pub returns-in_default-clause-cut : goal.returns-in_default-clause-cut
 returns-in_default-clause-cut g c = λ e w apps conn fits port fed ended taken at. begun_bytes (apps conn) port fed ended taken c.args.talk.now.session at

@@ -1,6 +1,6 @@
 use Rattle.std.specs.Prelude.{◌++◌}
 use Rattle.wsgi_core.specs.Steps.{stopped_bytes}
-use Rattle.wsgi_relay.proofs.relays.RelaysServiceRelayTalk.feed.Goals as goal
+use Rattle.wsgi_relay.proofs.relays.RelaysServiceRelayTalkAppServer.feed.Goals as goal
 
 pub returns-in-Ok-clause-fed : goal.returns-in-Ok-clause-fed
 returns-in-Ok-clause-fed g c = λ w apps conn fits. c.in-Ok.ensures.stands_at (apps conn)
