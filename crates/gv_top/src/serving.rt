@@ -26,7 +26,7 @@ ghost use Rattle.run_command.specs.Faults.{Counts};
 ghost use Rattle.gv_top.specs.Top.{HandsOn, seen};
 ghost use Rattle.gv_top.specs.Words.{are_native, offline_command_of, is_native, is_native_server, is_passing_server, passes_on, reads_input, serve_of};
 
-use crate::gateway::{AppServer, serve_through};
+use crate::gateway::{GatewayServer, serve_through};
 use crate::status::verdict_of_server;
 use crate::top::{offline, tell};
 use crate::words::server_options;
@@ -132,7 +132,7 @@ fn serve_as<K: Sink, N: Net, W: World, D: Dial, A: Application, H: Wait>(
     };
     match options.answers {
         ServeAnswers::Application(gateway) => {
-            let server = AppServer { gateway, terms };
+            let server = GatewayServer { gateway, terms };
             serve_through(host.rt, host.alloc, server, out, net, host.app)
         }
         ServeAnswers::Jobs(workers) => {

@@ -32,7 +32,7 @@ pub goes_on_none : (v : DialMeaning) (slot : ℕ) → GoesOnIn v v slot
 goes_on_none v slot = record {
   streams = λ number at. sym (set-get_or v.streams number absent_connection);
   same_closed = λ number at. refl;
-  none = record { opened = refl; slots = refl };
+  none = record { opened = refl; slots = refl; towards = refl };
   moment = le_refl v.moment;
 }
 
@@ -42,7 +42,7 @@ goes_on_twice u v w slot h g = record {
       let d = connection_at w.streams number in
       g.streams number (later number at) ∙ ap (λ (cs : List Connection). slice_set cs number d) (h.streams number at) ∙ set-set u.streams number (connection_at v.streams number) d;
   same_closed = λ number at. g.same_closed number (later number at) ∙ h.same_closed number at;
-  none = record { opened = g.none.opened ∙ h.none.opened; slots = g.none.slots ∙ h.none.slots };
+  none = record { opened = g.none.opened ∙ h.none.opened; slots = g.none.slots ∙ h.none.slots; towards = g.none.towards ∙ h.none.towards };
   moment = le_trans h.moment g.moment;
 }
   where

@@ -213,6 +213,7 @@ impl Relays {
         ensures opens { IfOk result (λ slot. OpensFor (D.meaning upstream.old.dial) (D.meaning upstream.new.dial) upstream.old.patience (asked_on asked.now.conn asked.now.session.now) slot exchange.new) }
         ensures replies { self.new.replies.list ≡ self.old.replies.list }
         ensures patience { upstream.new.patience ≡ upstream.old.patience }
+        ensures towards { (D.meaning upstream.new.dial).towards ≡ (D.meaning upstream.old.dial).towards }
         ensures exchanges { self.new.exchanges.items ≡ self.old.exchanges.items }
     {
         let slot = upstream.dial.dial()?;
@@ -237,6 +238,7 @@ impl Relays {
         ensures hands_on { OnOk result (HandsOn (D.meaning upstream.old.dial) (D.meaning upstream.new.dial) upstream.old.patience (asked_on conn session.now) self.old.exchanges.items self.new.exchanges.items) }
         ensures replies { self.new.replies.list ≡ self.old.replies.list }
         ensures patience { upstream.new.patience ≡ upstream.old.patience }
+        ensures towards { (D.meaning upstream.new.dial).towards ≡ (D.meaning upstream.old.dial).towards }
     {
         let Some((environ, body)) = session.asked() else {
             // The requires says that a request waits.
@@ -300,6 +302,7 @@ impl Relays {
         ensures askers { self.new.askers.list ≡ self.old.askers.list }
         ensures replies { self.new.replies.list ≡ self.old.replies.list }
         ensures patience { upstream.new.patience ≡ upstream.old.patience }
+        ensures towards { (D.meaning upstream.new.dial).towards ≡ (D.meaning upstream.old.dial).towards }
     {
         if let Some(slot) = self.late_slot(upstream.dial.now()) {
             return Turn::Over(slot, Far::Late);
@@ -342,6 +345,7 @@ impl Relays {
             × HaveAskedBut self.new.askers.list (IsListed table.new) accepted client.conn (rank_of client.talk)) }
         ensures fits { (apps : Apps) → AllAgree (given_in self.new.replies.list) apps → AllAgree (given_in self.old.replies.list) apps }
         ensures patience { upstream.new.patience ≡ upstream.old.patience }
+        ensures towards { (D.meaning upstream.new.dial).towards ≡ (D.meaning upstream.old.dial).towards }
         ensures askers { self.new.askers.list ≡ self.old.askers.list }
     {
         let Some(exchange) = take(&mut self.exchanges, slot) else {
@@ -385,8 +389,7 @@ impl<D: Dial> Service<RelayTalk, AppServer<D>> for Relays {
 
     ghost spent = { λ relays upstream. ⊥ };
 
-    // How long a reply may take stays the same, as workers do.
-    ghost workers = { λ upstream. upstream.patience };
+    ghost lasting = { λ upstream. (upstream.patience, (D.meaning upstream.dial).towards) };
 
     fn begin(&self, port: u16) -> RelayTalk {
         RelayTalk {

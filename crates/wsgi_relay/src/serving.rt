@@ -68,6 +68,8 @@ pub fn serve_relay<N: Net, D: Dial, H: Wait>(
     // stream of its own, which was opened for it, and what was read there is its answer.
     ensures relayed { HasRelayed terms.port terms.limits.idle upstream.new.patience (N.meaning net.new).connections (D.meaning upstream.new.dial) }
     ensures patience { upstream.new.patience ≡ upstream.old.patience }
+    // All streams are opened towards the same.
+    ensures towards { (D.meaning upstream.new.dial).towards ≡ (D.meaning upstream.old.dial).towards }
     ensures most { (N.meaning net.new).most ≤ terms.limits.pool }
     // At any end so many were accepted at most.
     ensures within { length (N.meaning net.new).connections ≤ terms.limits.conns }

@@ -33,7 +33,10 @@ returns-clause-relayed g c =
     relayed_by u.patience c.args.terms (g.N.Net.meaning c.serve_on-end.new.net) (g.D.Dial.meaning u.dial) s.askers.list (given_in s.replies.list) c.serve_on-end.ensures.sound.0 c.serve_on-end.ensures.sound.1 c.serve_on-end.ensures.left
 
 pub returns-clause-patience : goal.returns-clause-patience
-returns-clause-patience g c = c.serve_on-end.ensures.workers
+returns-clause-patience g c = ap (λ (p : ℕ × Option ℕ). p.0) c.serve_on-end.ensures.lasting
+
+pub returns-clause-towards : goal.returns-clause-towards
+returns-clause-towards g c = ap (λ (p : ℕ × Option ℕ). p.1) c.serve_on-end.ensures.lasting
 
 pub returns-clause-most : goal.returns-clause-most
 returns-clause-most g c = (c.serve_on-end.ensures.left (relay_app (given_in c.serve_on-end.new.service.replies.list)) (relay_agrees (given_in c.serve_on-end.new.service.replies.list))).most

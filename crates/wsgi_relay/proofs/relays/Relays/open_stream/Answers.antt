@@ -36,3 +36,12 @@ returns-clause-opens g c =
     opened_for c.args.upstream.now.patience (g.D.Dial.meaning c.args.upstream.now.dial) (g.D.Dial.meaning c.dial.new.self) w c.in_ok-slot.slot a (record c.args.exchange.now { until = c.saturating_add-exchange.result }) c.send.new.exchange
     c.in_ok-slot.ensures.opens (made_until a c.args.exchange.now c.saturating_add-exchange.result c.requires.begun) c.send.ensures.only c.send.ensures.same c.args.body.now c.requires.body c.send.ensures.exchanging
     18446744073709551615 (c.saturating_add-exchange.ensures ∙ ap (λ (n : ℕ). min (n + c.args.upstream.now.patience) 18446744073709551615) c.now.ensures) refl c.requires.kept.timed
+
+pub returns-in_err-slot-clause-towards : goal.returns-in_err-slot-clause-towards
+returns-in_err-slot-clause-towards g c = c.in_err-slot.ensures.kept.none.towards
+
+pub returns-in_err-send-clause-towards : goal.returns-in_err-send-clause-towards
+returns-in_err-send-clause-towards g c = c.send.ensures.only.none.towards ∙ c.in_ok-slot.ensures.opens.towards
+
+pub returns-clause-towards : goal.returns-clause-towards
+returns-clause-towards g c = c.send.ensures.only.none.towards ∙ c.in_ok-slot.ensures.opens.towards

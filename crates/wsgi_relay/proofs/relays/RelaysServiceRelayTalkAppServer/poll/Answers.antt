@@ -1,4 +1,4 @@
-use Rattle.std.proofs.Common.{◌≡◌, ℕ, List, refl, sym, subst, ◌∙◌}
+use Rattle.std.proofs.Common.{◌≡◌, ℕ, List, Option, ap₂, refl, sym, subst, ◌∙◌}
 use Rattle.stream_server.specs.Tables.{IsListed}
 use Rattle.stream_server.specs.declared.client.Client.{Client}
 use Rattle.wsgi_relay.specs.Accounts.{AllAgree, given_in}
@@ -10,7 +10,7 @@ use Rattle.wsgi_relay.proofs.Releasing.{over_ties}
 use Rattle.wsgi_relay.proofs.relays.RelaysServiceRelayTalkAppServer.poll.Goals as goal
 
 pub loop-init : goal.loop-init
-loop-init g c = record { tied = c.requires.1.0; kept = c.requires.1.1; askers = refl; replies = refl; patience = refl }
+loop-init g c = record { tied = c.requires.1.0; kept = c.requires.1.1; askers = refl; replies = refl; patience = refl; towards = refl }
 
 pub turn-requires-clause-tied : goal.turn-requires-clause-tied
 turn-requires-clause-tied g c = c.loop.invariant.tied
@@ -25,6 +25,7 @@ loop-preserved g c = record {
   askers = c.turn.ensures.askers ∙ c.loop.invariant.askers;
   replies = c.turn.ensures.replies ∙ c.loop.invariant.replies;
   patience = c.turn.ensures.patience ∙ c.loop.invariant.patience;
+  towards = c.turn.ensures.towards ∙ c.loop.invariant.towards;
 }
 
 pub release-requires-clause-tied : goal.release-requires-clause-tied
@@ -50,8 +51,8 @@ returns-in-Over-clause-fits g c = λ apps fits.
 pub returns-in-Over-clause-sound : goal.returns-in-Over-clause-sound
 returns-in-Over-clause-sound g c = (c.release.ensures.kept, subst HaveAskedOnce (sym (c.release.ensures.askers ∙ c.turn.ensures.askers ∙ c.loop.invariant.askers)) c.requires.1.2.once)
 
-pub returns-in-Over-clause-workers : goal.returns-in-Over-clause-workers
-returns-in-Over-clause-workers g c = c.release.ensures.patience ∙ c.turn.ensures.patience ∙ c.loop.invariant.patience
+pub returns-in-Over-clause-lasting : goal.returns-in-Over-clause-lasting
+returns-in-Over-clause-lasting g c = ap₂ (λ (p : ℕ) (t : Option ℕ). (p, t)) (c.release.ensures.patience ∙ c.turn.ensures.patience ∙ c.loop.invariant.patience) (c.release.ensures.towards ∙ c.turn.ensures.towards ∙ c.loop.invariant.towards)
 
 pub returns-in-Rests-clause-tied : goal.returns-in-Rests-clause-tied
 returns-in-Rests-clause-tied g c = λ accepted tied. (
@@ -69,8 +70,8 @@ returns-clause-fits g c = λ apps fits. subst (λ (l : List ((ℕ × ℕ) × Giv
 pub returns-clause-sound : goal.returns-clause-sound
 returns-clause-sound g c = (c.loop.invariant.kept, subst HaveAskedOnce (sym c.loop.invariant.askers) c.requires.1.2.once)
 
-pub returns-clause-workers : goal.returns-clause-workers
-returns-clause-workers g c = c.loop.invariant.patience
+pub returns-clause-lasting : goal.returns-clause-lasting
+returns-clause-lasting g c = ap₂ (λ (p : ℕ) (t : Option ℕ). (p, t)) (c.loop.invariant.patience) (c.loop.invariant.towards)
 
 pub returns-in-Rests-clause-fits : goal.returns-in-Rests-clause-fits
 returns-in-Rests-clause-fits g c = λ apps fits. subst (λ (l : List ((ℕ × ℕ) × Given)). AllAgree (given_in l) apps) (c.turn.ensures.replies ∙ c.loop.invariant.replies) fits
@@ -78,8 +79,8 @@ returns-in-Rests-clause-fits g c = λ apps fits. subst (λ (l : List ((ℕ × �
 pub returns-in-Rests-clause-sound : goal.returns-in-Rests-clause-sound
 returns-in-Rests-clause-sound g c = (c.turn.ensures.kept, subst HaveAskedOnce (sym (c.turn.ensures.askers ∙ c.loop.invariant.askers)) c.requires.1.2.once)
 
-pub returns-in-Rests-clause-workers : goal.returns-in-Rests-clause-workers
-returns-in-Rests-clause-workers g c = c.turn.ensures.patience ∙ c.loop.invariant.patience
+pub returns-in-Rests-clause-lasting : goal.returns-in-Rests-clause-lasting
+returns-in-Rests-clause-lasting g c = ap₂ (λ (p : ℕ) (t : Option ℕ). (p, t)) (c.turn.ensures.patience ∙ c.loop.invariant.patience) (c.turn.ensures.towards ∙ c.loop.invariant.towards)
 
 pub returns-in-Memory-clause-fits : goal.returns-in-Memory-clause-fits
 returns-in-Memory-clause-fits g c = λ apps fits. subst (λ (l : List ((ℕ × ℕ) × Given)). AllAgree (given_in l) apps) (c.turn.ensures.replies ∙ c.loop.invariant.replies) fits
@@ -87,5 +88,5 @@ returns-in-Memory-clause-fits g c = λ apps fits. subst (λ (l : List ((ℕ × �
 pub returns-in-Memory-clause-sound : goal.returns-in-Memory-clause-sound
 returns-in-Memory-clause-sound g c = (c.turn.ensures.kept, subst HaveAskedOnce (sym (c.turn.ensures.askers ∙ c.loop.invariant.askers)) c.requires.1.2.once)
 
-pub returns-in-Memory-clause-workers : goal.returns-in-Memory-clause-workers
-returns-in-Memory-clause-workers g c = c.turn.ensures.patience ∙ c.loop.invariant.patience
+pub returns-in-Memory-clause-lasting : goal.returns-in-Memory-clause-lasting
+returns-in-Memory-clause-lasting g c = ap₂ (λ (p : ℕ) (t : Option ℕ). (p, t)) (c.turn.ensures.patience ∙ c.loop.invariant.patience) (c.turn.ensures.towards ∙ c.loop.invariant.towards)
