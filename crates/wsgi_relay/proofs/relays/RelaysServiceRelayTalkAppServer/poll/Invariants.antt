@@ -11,4 +11,5 @@ invariant-loop g l = record {
   askers : l.self.askers.list ≡ l.fn.self.askers.list;
   replies : l.self.replies.list ≡ l.fn.self.replies.list;
   patience : l.world.patience ≡ l.fn.world.patience;
+  table : l.table ≡ l.fn.table;
 }
