@@ -8,3 +8,4 @@ pub mod Sending
 pub mod Streaming
 pub mod Talking
 pub mod Tying
+pub mod Turning

@@ -6,3 +6,4 @@ pub mod Laws
 pub mod Relaying
 pub mod Talks
 pub mod Tied
+pub mod Turns

@@ -15,6 +15,7 @@ ghost use Rattle.wsgi_relay.specs.Giving.{Gives};
 ghost use Rattle.wsgi_relay.specs.Laws.{relay_app};
 ghost use Rattle.wsgi_relay.specs.Talks.{rank_of, relay_protocol};
 ghost use Rattle.wsgi_relay.specs.Tied.{HandsOn, HaveAsked, HaveAskedBut, HaveAskedOnce, IsKept, IsMadeFor, IsOver, IsTied, IsTiedBut, IsUnderWay, OpensFor, Puts, exchange_in};
+ghost use Rattle.wsgi_relay.specs.Turns.{turn_of};
 
 use crate::accounts::{AskedOn, Askers, GivenOn, Replies};
 use crate::exchange::{Exchange, advance, close_exchange, send};
@@ -137,6 +138,19 @@ fn asks_for_head(environ: &Environ) -> bool
     match environ.get(b"REQUEST_METHOD") {
         None => false,
         Some(method) => method == b"HEAD".as_slice(),
+    }
+}
+
+/// What it led to that the exchange in this slot has come so far.
+fn turn_of(slot: usize, far: Result<Option<Far>, AllocError>) -> Turn
+    ensures { result ≡ turn_of slot far }
+{
+    match far {
+        Err(_) => Turn::Memory,
+        Ok(far) => match far {
+            None => Turn::GoesOn,
+            Some(far) => Turn::Over(slot, far),
+        },
     }
 }
 
@@ -277,7 +291,8 @@ impl Relays {
         ensures only { GoesOnIn (D.meaning upstream.old.dial) (D.meaning upstream.new.dial) slot }
         ensures same { IsSameExchange exchange.old exchange.new }
         ensures sent { (number : ℕ) → (D.meaning upstream.new.dial).slots slot ≡ Some number → IsSent (connection_at (D.meaning upstream.new.dial).streams number) exchange.new (asker_in self.now.askers.list number).body }
-        ensures way { OnOk result (IsUnderWay (D.meaning upstream.new.dial) upstream.new.patience self.now.askers.list (IsListed table.now) slot exchange.new) }
+        ensures way { OnOk result (IsUnderWay (D.meaning upstream.new.dial) upstream.old.patience self.now.askers.list (IsListed table.now) slot exchange.new) }
+        ensures patience { upstream.new.patience ≡ upstream.old.patience }
         ensures come { (far : Far) → result ≡ Ok (Some far) → OfSlot (D.meaning upstream.new.dial) slot (λ s. HasShown far s exchange.new) }
     {
         let Some(client) = table.get(exchange.conn) else {
@@ -317,11 +332,7 @@ impl Relays {
         let mut exchange = exchange;
         let far = self.go_on(upstream, table, slot, &mut exchange);
         put(&mut self.exchanges, slot, exchange);
-        match far {
-            Ok(None) => Turn::GoesOn,
-            Ok(Some(far)) => Turn::Over(slot, far),
-            Err(_) => Turn::Memory,
-        }
+        turn_of(slot, far)
     }
 
     /// Ends the exchange in a slot, and gives the reply to the client that waits for it.

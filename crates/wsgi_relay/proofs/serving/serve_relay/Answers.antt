@@ -1,4 +1,4 @@
-use Rattle.std.proofs.Common.{refl, subst, ℕ}
+use Rattle.std.proofs.Common.{ap, refl, subst, ℕ, Option}
 use Rattle.stream_server.specs.Tables.{IsListed}
 use Rattle.stream_server.proofs.Endings.{all_rest, but_rest}
 use Rattle.wsgi_relay.specs.Accounts.{given_in}

@@ -1,16 +1,17 @@
 use Rattle.std.proofs.Common.{◌≡◌, ℕ, List, Option, ap₂, refl, sym, subst, ◌∙◌}
-use Rattle.stream_server.specs.Tables.{IsListed}
-use Rattle.stream_server.specs.declared.client.Client.{Client}
+use Rattle.stream_server.specs.Services.{Polls}
+use Rattle.stream_server.specs.Tables.{IsListed, SeenTable}
 use Rattle.wsgi_relay.specs.Accounts.{AllAgree, given_in}
-use Rattle.wsgi_relay.specs.Relaying.{Asked, Given}
-use Rattle.wsgi_relay.specs.Talks.{rank_of}
-use Rattle.wsgi_relay.specs.Tied.{HaveAsked, HaveAskedBut, HaveAskedOnce, IsKept, IsTied, IsTiedBut}
+use Rattle.wsgi_relay.specs.Relaying.{Given}
+use Rattle.wsgi_relay.specs.Talks.{relay_protocol}
+use Rattle.wsgi_relay.specs.Tied.{HaveAskedOnce}
 use Rattle.wsgi_relay.specs.declared.relay_talk.RelayTalk.{RelayTalk}
 use Rattle.wsgi_relay.proofs.Releasing.{over_ties}
+use Rattle.wsgi_relay.proofs.Turning.{asked_same}
 use Rattle.wsgi_relay.proofs.relays.RelaysServiceRelayTalkAppServer.poll.Goals as goal
 
 pub loop-init : goal.loop-init
-loop-init g c = record { tied = c.requires.1.0; kept = c.requires.1.1; askers = refl; replies = refl; patience = refl; towards = refl }
+loop-init g c = record { tied = c.requires.1.0; kept = c.requires.1.1; askers = refl; replies = refl; patience = refl; towards = refl; table = refl }
 
 pub turn-requires-clause-tied : goal.turn-requires-clause-tied
 turn-requires-clause-tied g c = c.loop.invariant.tied
@@ -26,6 +27,7 @@ loop-preserved g c = record {
   replies = c.turn.ensures.replies ∙ c.loop.invariant.replies;
   patience = c.turn.ensures.patience ∙ c.loop.invariant.patience;
   towards = c.turn.ensures.towards ∙ c.loop.invariant.towards;
+  table = c.loop.invariant.table;
 }
 
 pub release-requires-clause-tied : goal.release-requires-clause-tied
@@ -42,7 +44,7 @@ release-requires-clause-over g c = c.turn.ensures.over c.in-Over.slot c.in-Over.
 
 pub returns-in-Over-clause-tied : goal.returns-in-Over-clause-tied
 returns-in-Over-clause-tied g c = λ accepted tied.
-    over_ties _ _ _ _ c.release.result c.release.ensures.kept (c.release.ensures.tied accepted (subst (λ (l : List Asked). HaveAsked l (IsListed c.args.table.now) accepted) (sym (c.turn.ensures.askers ∙ c.loop.invariant.askers)) tied.2))
+    over_ties _ _ _ _ c.release.result c.release.ensures.kept (c.release.ensures.tied accepted (asked_same c.args.self.now.askers.list c.turn.new.self.askers.list c.args.table.now c.loop.table accepted (c.turn.ensures.askers ∙ c.loop.invariant.askers) c.loop.invariant.table tied.2))
 
 pub returns-in-Over-clause-fits : goal.returns-in-Over-clause-fits
 returns-in-Over-clause-fits g c = λ apps fits.
@@ -58,11 +60,11 @@ pub returns-in-Rests-clause-tied : goal.returns-in-Rests-clause-tied
 returns-in-Rests-clause-tied g c = λ accepted tied. (
   c.turn.ensures.tied (λ e. absurd (cc (c.in-Rests.is, e))),
   c.turn.ensures.kept,
-  subst (λ (l : List Asked). HaveAsked l (IsListed c.args.table.now) accepted) (sym (c.turn.ensures.askers ∙ c.loop.invariant.askers)) tied.2,
+  asked_same c.args.self.now.askers.list c.turn.new.self.askers.list c.args.table.now c.loop.table accepted (c.turn.ensures.askers ∙ c.loop.invariant.askers) c.loop.invariant.table tied.2,
 )
 
 pub returns-clause-tied : goal.returns-clause-tied
-returns-clause-tied g c = λ accepted tied. (c.loop.invariant.tied, c.loop.invariant.kept, subst (λ (l : List Asked). HaveAsked l (IsListed c.args.table.now) accepted) (sym c.loop.invariant.askers) tied.2)
+returns-clause-tied g c = λ accepted tied. (c.loop.invariant.tied, c.loop.invariant.kept, asked_same c.args.self.now.askers.list c.loop.self.askers.list c.args.table.now c.loop.table accepted c.loop.invariant.askers c.loop.invariant.table tied.2)
 
 pub returns-clause-fits : goal.returns-clause-fits
 returns-clause-fits g c = λ apps fits. subst (λ (l : List ((ℕ × ℕ) × Given)). AllAgree (given_in l) apps) c.loop.invariant.replies fits
@@ -90,3 +92,12 @@ returns-in-Memory-clause-sound g c = (c.turn.ensures.kept, subst HaveAskedOnce (
 
 pub returns-in-Memory-clause-lasting : goal.returns-in-Memory-clause-lasting
 returns-in-Memory-clause-lasting g c = ap₂ (λ (p : ℕ) (t : Option ℕ). (p, t)) (c.turn.ensures.patience ∙ c.loop.invariant.patience) (c.turn.ensures.towards ∙ c.loop.invariant.towards)
+
+pub returns-in-Rests-clause-polled : goal.returns-in-Rests-clause-polled
+returns-in-Rests-clause-polled g c = c.loop.invariant.table
+
+pub returns-in-Over-clause-polled : goal.returns-in-Over-clause-polled
+returns-in-Over-clause-polled g c = subst (λ (t : SeenTable RelayTalk). Polls c.release.result relay_protocol (AllAgree (given_in c.release.new.self.replies.list)) t c.release.new.table) c.loop.invariant.table c.release.ensures.polled
+
+pub returns-clause-polled : goal.returns-clause-polled
+returns-clause-polled g c = c.loop.invariant.table

@@ -12,4 +12,5 @@ invariant-loop g l = record {
   replies : l.self.replies.list ≡ l.fn.self.replies.list;
   patience : l.world.patience ≡ l.fn.world.patience;
   towards : (g.D.Dial.meaning l.world.dial).towards ≡ (g.D.Dial.meaning l.fn.world.dial).towards;
+  table : l.table ≡ l.fn.table;
 }
