@@ -73,7 +73,7 @@ pub returns-clause-sound : goal.returns-clause-sound
 returns-clause-sound g c = (c.loop.invariant.kept, subst HaveAskedOnce (sym c.loop.invariant.askers) c.requires.1.2.once)
 
 pub returns-clause-lasting : goal.returns-clause-lasting
-returns-clause-lasting g c = ap₂ (λ (p : ℕ) (t : Option ℕ). (p, t)) (c.loop.invariant.patience) (c.loop.invariant.towards)
+returns-clause-lasting g c = ap₂ (λ (p : ℕ) (t : Option ℕ). (p, t)) c.loop.invariant.patience c.loop.invariant.towards
 
 pub returns-in-Rests-clause-fits : goal.returns-in-Rests-clause-fits
 returns-in-Rests-clause-fits g c = λ apps fits. subst (λ (l : List ((ℕ × ℕ) × Given)). AllAgree (given_in l) apps) (c.turn.ensures.replies ∙ c.loop.invariant.replies) fits
