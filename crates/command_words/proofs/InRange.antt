@@ -13,10 +13,11 @@ use Rattle.command_words.specs.declared.command.RunWorld.TheVariants.{Script}
 use Rattle.command_words.specs.declared.command.ResultOrder.{ResultOrder}
 use Rattle.command_words.specs.declared.command.ResultOrder.TheVariants as results
 use Rattle.command_words.specs.declared.command.ServeAnswers.{ServeAnswers}
+use Rattle.command_words.specs.declared.command.PassOptions.{PassOptions}
 use Rattle.command_words.specs.declared.command.ServeAnswers.TheVariants.{Application}
 use Rattle.command_words.specs.declared.command.TextCommand.TheVariants.{Format}
 use Rattle.command_words.specs.declared.command.TraceCheck.{TraceCheck}
-use Rattle.command_words.specs.Words.{LookUp, OptionRow, Word, server_answers_by, check, check_by, check_named, command_by, command_of, conns, gateway_by, given, idle, jobs, jobs_by, jobs_in, laws_check, moves, native, number_by, number_in, options, order, order_by, pool, port, row_of, run, run_by, run_check, format, wsgi, serve, serve_by, size, storm, storm_by, tick, turns, value_in, verify, verify_by, workers_by, workers_in, world_by, wsgi_by}
+use Rattle.command_words.specs.Words.{LookUp, OptionRow, Word, server_answers_by, check, check_by, check_named, command_by, command_of, conns, gateway_by, given, idle, jobs, jobs_by, jobs_in, laws_check, moves, native, number_by, number_in, options, order, order_by, pass, pass_by, pass_in, passed_by, patience, pool, port, row_of, run, run_by, run_check, format, wsgi, serve, serve_by, size, storm, storm_by, tick, turns, value_in, verify, verify_by, workers_by, workers_in, world_by, wsgi_by}
 use Rattle.command_words.specs.Ranges.{AreAnswersInRange, IsCheckInRange, IsInRange, IsWorldInRange, TakesNumber, takes_usual}
 
 -- ---- what gave a value
@@ -100,15 +101,41 @@ workers_fit : (g : GatewayKind) (n : ℕ) (a : ServeAnswers) → TakesNumber job
 workers_fit Http n a h e = subst AreAnswersInRange (same_some _ _ e) h
 workers_fit Scgi n a h e = absurd (cc e)
 
-answers_take : (look : LookUp) (a : ServeAnswers) → server_answers_by look ≡ Some a → AreAnswersInRange a
-answers_take look a e = by (is_some (look jobs.name)) e
+jobs_take : (look : LookUp) (a : ServeAnswers) → jobs_by look ≡ Some a → AreAnswersInRange a
+jobs_take look a e =
+    let g = some_given (gateway_by look) (λ g. given (number_by jobs look) (jobs_in g)) a e in
+    let n = some_given (number_by jobs look) (jobs_in g.value) a g.gives in
+    workers_fit g.value n.value a (number_takes jobs look n.value refl n.is) n.gives
+
+passed_take : (look : LookUp) (a : ServeAnswers) → passed_by look ≡ Some a → AreAnswersInRange a
+passed_take look a e = by (is_some (look patience.name)) (is_some (look jobs.name)) e
   where
-    by : (j : Bool) → (if j then jobs_by look else option_map (λ g. Application g) (gateway_by look)) ≡ Some a → AreAnswersInRange a
-    by true f =
-        let g = some_given (gateway_by look) (λ g. given (number_by jobs look) (jobs_in g)) a f in
-        let n = some_given (number_by jobs look) (jobs_in g.value) a g.gives in
-        workers_fit g.value n.value a (number_takes jobs look n.value refl n.is) n.gives
-    by false f = let g = some_mapped (gateway_by look) (λ g. Application g) a f in subst AreAnswersInRange g.gives tt
+    by : (p j : Bool) → (if p then None else if j then jobs_by look else option_map (λ g. Application g) (gateway_by look)) ≡ Some a → AreAnswersInRange a
+    by true j f = absurd (cc f)
+    by false true f = jobs_take look a f
+    by false false f = let g = some_mapped (gateway_by look) (λ g. Application g) a f in subst AreAnswersInRange g.gives tt
+
+server_fits : (g : GatewayKind) (options : PassOptions) (a : ServeAnswers) → TakesNumber pass options.port × TakesNumber patience options.patience → pass_in g options ≡ Some a → AreAnswersInRange a
+server_fits Http options a h e = subst AreAnswersInRange (same_some _ _ e) h
+server_fits Scgi options a h e = absurd (cc e)
+
+pass_takes : (look : LookUp) (a : ServeAnswers) → pass_by look ≡ Some a → AreAnswersInRange a
+pass_takes look a e = by (is_some (look jobs.name)) e
+  where
+    by : (j : Bool) → (if j then None else given (gateway_by look) (λ g. given (number_by pass look) (λ port. given (number_by patience look) (λ patience. pass_in g (record { port = port; patience = patience }))))) ≡ Some a → AreAnswersInRange a
+    by true f = absurd (cc f)
+    by false f =
+        let g = some_given (gateway_by look) _ a f in
+        let p = some_given (number_by pass look) _ a g.gives in
+        let t = some_given (number_by patience look) _ a p.gives in
+        server_fits g.value (record { port = p.value; patience = t.value }) a (number_takes pass look p.value refl p.is, number_takes patience look t.value refl t.is) t.gives
+
+answers_take : (look : LookUp) (a : ServeAnswers) → server_answers_by look ≡ Some a → AreAnswersInRange a
+answers_take look a e = by (is_some (look pass.name)) e
+  where
+    by : (p : Bool) → (if p then pass_by look else passed_by look) ≡ Some a → AreAnswersInRange a
+    by true f = pass_takes look a f
+    by false f = passed_take look a f
 
 serve_takes : (look : LookUp) (c : NamedCommand) → serve_by look ≡ Some c → IsInRange c
 serve_takes look c e =

@@ -1,12 +1,12 @@
 -- The numbers that commands have.
 use Rattle.std.specs.Prelude.{ℕ, ◌≤◌, ◌&&◌, Bool, true, nat_le, Some, None}
-use Rattle.command_words.specs.Words.{OptionRow, turns, moves, tick, native, port, conns, pool, idle, jobs, size}
+use Rattle.command_words.specs.Words.{OptionRow, turns, moves, tick, native, port, conns, pool, idle, jobs, pass, patience, size}
 use Rattle.command_words.specs.declared.command.NamedCommand.{NamedCommand}
 use Rattle.command_words.specs.declared.command.NamedCommand.TheVariants.{Text, Wsgi, Serve, Storm, Verify}
 use Rattle.command_words.specs.declared.command.RunWorld.{RunWorld}
 use Rattle.command_words.specs.declared.command.RunWorld.TheVariants.{Script, Native, Held}
 use Rattle.command_words.specs.declared.command.ServeAnswers.{ServeAnswers}
-use Rattle.command_words.specs.declared.command.ServeAnswers.TheVariants.{Application, Jobs}
+use Rattle.command_words.specs.declared.command.ServeAnswers.TheVariants.{Application, Jobs, Passing}
 use Rattle.command_words.specs.declared.command.TextCommand.TheVariants.{Run, Format}
 use Rattle.command_words.specs.declared.command.TraceCheck.{TraceCheck}
 
@@ -30,6 +30,7 @@ IsCheckInRange TraceCheck.Laws = Unit {0}
 abbrev pub AreAnswersInRange : ServeAnswers → Type 0
 AreAnswersInRange (Application gateway) = Unit {0}
 AreAnswersInRange (Jobs n) = TakesNumber jobs n
+AreAnswersInRange (Passing options) = TakesNumber pass options.port × TakesNumber patience options.patience
 
 abbrev pub IsInRange : NamedCommand → Type 0
 IsInRange (Text (Run options)) = TakesNumber turns options.turns × TakesNumber moves options.moves × IsWorldInRange options.world

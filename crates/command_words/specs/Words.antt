@@ -9,14 +9,15 @@ use Rattle.command_words.specs.declared.command.NamedCommand.TheVariants.{Text, 
 use Rattle.command_words.specs.declared.command.GatewayKind.{GatewayKind}
 use Rattle.command_words.specs.declared.command.GatewayKind.TheVariants.{Http, Scgi}
 use Rattle.command_words.specs.declared.command.ServeAnswers.{ServeAnswers}
-use Rattle.command_words.specs.declared.command.ServeAnswers.TheVariants.{Application, Jobs}
+use Rattle.command_words.specs.declared.command.PassOptions.{PassOptions}
+use Rattle.command_words.specs.declared.command.ServeAnswers.TheVariants.{Application, Jobs, Passing}
 use Rattle.command_words.specs.declared.command.RunWorld.{RunWorld}
 use Rattle.command_words.specs.declared.command.RunWorld.TheVariants.{Script, Native, Held}
 use Rattle.command_words.specs.declared.command.ResultOrder.{ResultOrder}
 use Rattle.command_words.specs.declared.command.ResultOrder.TheVariants as results
 use Rattle.command_words.specs.declared.command.TextCommand.TheVariants.{Run, Format}
 use Rattle.command_words.specs.declared.command.TraceCheck.{TraceCheck}
-use Rattle.command_words.specs.declared.table.TheConstants.{MOST_PORT, MOST_STORM, MOST_TICK, USUAL_IDLE, USUAL_MOVES, USUAL_OPEN_CONNECTIONS, USUAL_TURNS}
+use Rattle.command_words.specs.declared.table.TheConstants.{MOST_PORT, MOST_STORM, MOST_TICK, USUAL_IDLE, USUAL_MOVES, USUAL_OPEN_CONNECTIONS, USUAL_PATIENCE, USUAL_TURNS}
 use Rattle.gv_values.specs.declared.limits.TheConstants.{MOST_CONNECTIONS, MOST_IDLE, MOST_MOVES, MOST_OPEN_CONNECTIONS, MOST_TURNS, MOST_WORKERS}
 
 abbrev pub Word : Type 0
@@ -61,6 +62,12 @@ idle = record { name = codes "idle"; least = 1; most = MOST_IDLE; usual = Some U
 abbrev pub jobs : OptionRow
 jobs = record { name = codes "jobs"; least = 1; most = MOST_WORKERS; usual = None }
 
+abbrev pub pass : OptionRow
+pass = record { name = codes "pass"; least = 1; most = MOST_PORT; usual = None }
+
+abbrev pub patience : OptionRow
+patience = record { name = codes "patience"; least = 1; most = MOST_IDLE; usual = Some USUAL_PATIENCE }
+
 -- the option whose value is a gateway, by its name; `http` stands where it is left out
 abbrev pub gateway : Word
 gateway = codes "gateway"
@@ -87,7 +94,7 @@ abbrev pub wsgi : CommandRow
 wsgi = record { name = codes "wsgi"; options = gateway ∷ [] }
 
 abbrev pub serve : CommandRow
-serve = record { name = codes "serve"; options = port.name ∷ conns.name ∷ pool.name ∷ idle.name ∷ gateway ∷ jobs.name ∷ [] }
+serve = record { name = codes "serve"; options = port.name ∷ conns.name ∷ pool.name ∷ idle.name ∷ gateway ∷ jobs.name ∷ pass.name ∷ patience.name ∷ [] }
 
 abbrev pub storm : CommandRow
 storm = record { name = codes "storm"; options = size.name ∷ [] }
@@ -220,9 +227,30 @@ jobs_in Scgi n = None
 abbrev pub jobs_by : LookUp → Option ServeAnswers
 jobs_by look = given (gateway_by look) (λ g. given (number_by jobs look) (jobs_in g))
 
--- what a server answers with: native workers for jobs where they are asked for, or else its application
+-- an application server behind a server, which SCGI in front of it does not go with
+abbrev pub pass_in : GatewayKind → PassOptions → Option ServeAnswers
+pass_in Http options = Some (Passing options)
+pass_in Scgi options = None
+
+-- the application server that requests are passed to, which workers for jobs do not go with
+abbrev pub pass_by : LookUp → Option ServeAnswers
+pass_by look =
+    if is_some (look jobs.name) then None else
+    given (gateway_by look) (λ g.
+    given (number_by pass look) (λ port.
+    given (number_by patience look) (λ patience.
+    pass_in g (record { port = port; patience = patience }))))
+
+-- where none is named: native workers for jobs where they are asked for, or else its application; no patience goes with
+-- either
+abbrev pub passed_by : LookUp → Option ServeAnswers
+passed_by look =
+    if is_some (look patience.name) then None
+    else if is_some (look jobs.name) then jobs_by look else option_map (λ g. Application g) (gateway_by look)
+
+-- what a server answers with
 abbrev pub server_answers_by : LookUp → Option ServeAnswers
-server_answers_by look = if is_some (look jobs.name) then jobs_by look else option_map (λ g. Application g) (gateway_by look)
+server_answers_by look = if is_some (look pass.name) then pass_by look else passed_by look
 
 abbrev pub serve_by : LookUp → Option NamedCommand
 serve_by look =

@@ -56,6 +56,17 @@ pub enum ServeAnswers {
     Application(GatewayKind),
     /// Over HTTP, the application that has jobs done by so many native workers.
     Jobs(u32),
+    /// Over HTTP, what an application server replies.
+    Passing(PassOptions),
+}
+
+/// How requests are passed to an application server.
+#[derive(Clone, Copy, Debug, PartialEq, Eq)]
+pub struct PassOptions {
+    /// The port of 127.0.0.1 at which it is reached over SCGI.
+    pub port: u16,
+    /// How many milliseconds a reply is waited for.
+    pub patience: u64,
 }
 
 /// The options of a server.

@@ -9,8 +9,8 @@ mod reading;
 mod table;
 
 pub use command::{
-    GatewayKind, NamedCommand, ResultOrder, RunOptions, RunWorld, ServeAnswers, ServeOptions,
-    TextCommand, TraceCheck,
+    GatewayKind, NamedCommand, PassOptions, ResultOrder, RunOptions, RunWorld, ServeAnswers,
+    ServeOptions, TextCommand, TraceCheck,
 };
 pub use laws::commands_are_in_range;
 pub use reading::command_of;

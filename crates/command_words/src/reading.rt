@@ -2,17 +2,18 @@
 ghost use Rattle.std.specs.Prelude.{◌≡◌, IfOk, map, string_bytes};
 ghost use Rattle.std.specs.List.{list_any};
 ghost use Rattle.clap.specs.Words.{first_of, found_of, rows_of, subcommand_rows_of};
-ghost use Rattle.command_words.specs.Words.{server_answers_by, check_by, check_named, command_by, command_of, gateway_by, gateway_named, jobs_by, jobs_in, laws_check, order_by, order_named, run_by, run_check, serve_by, storm_by, verify_by, workers_by, workers_in, world_by, wsgi_by};
+ghost use Rattle.command_words.specs.Words.{server_answers_by, check_by, pass_by, pass_in, passed_by, check_named, command_by, command_of, gateway_by, gateway_named, jobs_by, jobs_in, laws_check, order_by, order_named, run_by, run_check, serve_by, storm_by, verify_by, workers_by, workers_in, world_by, wsgi_by};
 ghost use Rattle.command_words.specs.Clap.{by_clap, command_in, is_stray};
 
 use crate::clap_command::program;
 use crate::command::{
-    GatewayKind, NamedCommand, ResultOrder, RunOptions, RunWorld, ServeAnswers, ServeOptions,
-    TextCommand, TraceCheck,
+    GatewayKind, NamedCommand, PassOptions, ResultOrder, RunOptions, RunWorld, ServeAnswers,
+    ServeOptions, TextCommand, TraceCheck,
 };
 use crate::numbers::{given, number_by};
 use crate::table::{
-    CHECK, CONNS, GATEWAY, IDLE, JOBS, MOVES, NATIVE, ORDER, POOL, PORT, SIZE, TICK, TURNS,
+    CHECK, CONNS, GATEWAY, IDLE, JOBS, MOVES, NATIVE, ORDER, PASS, PATIENCE, POOL, PORT, SIZE,
+    TICK, TURNS,
 };
 use clap::ArgMatches;
 use clap::error::ErrorKind;
@@ -24,8 +25,9 @@ use std::alloc::{AllocError, Global};
 /// `--name=value`; options stand in any order, each at most once. A value is a number in decimal digits without a
 /// leading zero, in the option's range; that of `--gateway` is `http` or `scgi`, that of `--order` is `free` or
 /// `held`, that of `--check` is `run` or `laws`. All other words are no command, and neither are those of a run with a
-/// tick and native workers, or with an order and no native workers, those of a server with workers for jobs and SCGI, or
-/// those of a check of laws with turns or moves.
+/// tick and native workers, or with an order and no native workers, those of a server with two of workers for jobs, SCGI
+/// and an application server, or with a patience and no application server, or those of a check of laws with turns or
+/// moves.
 ///
 /// # Errors
 ///
@@ -222,15 +224,58 @@ fn jobs_by(matches: &ArgMatches) -> Option<ServeAnswers>
     jobs_in(gateway, workers as u32)
 }
 
-/// What a server answers with: native workers for jobs where they are asked for, or else its application.
-fn server_answers_by(matches: &ArgMatches) -> Option<ServeAnswers>
-    ensures { result ≡ server_answers_by (λ n. first_of n (rows_of (found_of matches.now))) }
+/// An application server behind a server, which SCGI in front of it does not go with.
+fn pass_in(gateway: GatewayKind, pass: PassOptions) -> Option<ServeAnswers>
+    ensures { result ≡ pass_in gateway pass }
 {
+    match gateway {
+        GatewayKind::Http => Some(ServeAnswers::Passing(pass)),
+        GatewayKind::Scgi => None,
+    }
+}
+
+/// The application server that a server is asked to pass its requests to, which workers for jobs do not go with.
+fn pass_by(matches: &ArgMatches) -> Option<ServeAnswers>
+    ensures { result ≡ pass_by (λ n. first_of n (rows_of (found_of matches.now))) }
+{
+    if given(JOBS.name, matches).is_some() {
+        return None;
+    }
+    let gateway = gateway_by(matches)?;
+    let port = number_by(PASS, matches)?;
+    let patience = number_by(PATIENCE, matches)?;
+    pass_in(
+        gateway,
+        PassOptions {
+            port: port as u16,
+            patience,
+        },
+    )
+}
+
+/// What a server that passes nothing on answers with: native workers for jobs where they are asked for, or else its
+/// application.
+fn passed_by(matches: &ArgMatches) -> Option<ServeAnswers>
+    ensures { result ≡ passed_by (λ n. first_of n (rows_of (found_of matches.now))) }
+{
+    if given(PATIENCE.name, matches).is_some() {
+        return None;
+    }
     if given(JOBS.name, matches).is_some() {
         return jobs_by(matches);
     }
     let gateway = gateway_by(matches)?;
     Some(ServeAnswers::Application(gateway))
+}
+
+/// What a server answers with: what an application server replies where one is named, or else what it has itself.
+fn server_answers_by(matches: &ArgMatches) -> Option<ServeAnswers>
+    ensures { result ≡ server_answers_by (λ n. first_of n (rows_of (found_of matches.now))) }
+{
+    if given(PASS.name, matches).is_some() {
+        return pass_by(matches);
+    }
+    passed_by(matches)
 }
 
 fn serve_by(matches: &ArgMatches) -> Option<NamedCommand>

@@ -56,6 +56,9 @@ pub const USUAL_OPEN_CONNECTIONS: u64 = 100;
 /// The time after which a server closes a quiet connection where nothing is said, in milliseconds.
 pub const USUAL_IDLE: u64 = 60000;
 
+/// The time for which a reply is waited for where nothing is said, in milliseconds.
+pub const USUAL_PATIENCE: u64 = 60000;
+
 /// The most greenlets of a storm.
 pub const MOST_STORM: u64 = 19000;
 
@@ -134,6 +137,22 @@ pub const JOBS: NumberOption = NumberOption {
     usual: None,
 };
 
+/// The port of the application server to which a server passes its requests.
+pub const PASS: NumberOption = NumberOption {
+    name: "pass",
+    least: 1,
+    most: MOST_PORT,
+    usual: None,
+};
+
+/// The time for which a server waits for a reply to what it passed, in milliseconds.
+pub const PATIENCE: NumberOption = NumberOption {
+    name: "patience",
+    least: 1,
+    most: MOST_IDLE,
+    usual: Some(USUAL_PATIENCE),
+};
+
 /// The option that names what a server speaks with its peers.
 pub const GATEWAY: &str = "gateway";
 
@@ -158,13 +177,15 @@ const OF_RUN: [CommandOption; 5] = [
 
 const OF_WSGI: [CommandOption; 1] = [CommandOption::Gateway(GATEWAY)];
 
-const OF_SERVE: [CommandOption; 6] = [
+const OF_SERVE: [CommandOption; 8] = [
     CommandOption::Number(PORT),
     CommandOption::Number(CONNS),
     CommandOption::Number(POOL),
     CommandOption::Number(IDLE),
     CommandOption::Gateway(GATEWAY),
     CommandOption::Number(JOBS),
+    CommandOption::Number(PASS),
+    CommandOption::Number(PATIENCE),
 ];
 
 const OF_STORM: [CommandOption; 1] = [CommandOption::Number(SIZE)];

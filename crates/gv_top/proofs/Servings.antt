@@ -1,5 +1,5 @@
 -- Of words that name `serve`, and of what a server came to.
-use Rattle.std.proofs.Common.{◌≡◌, ◌≢◌, ◌⊎◌, ◌↔◌, inl, inr, refl, ap, sym, ◌∙◌, ℕ, ◌<◌, ◌≤◌, false, List, Option, Some, None, IsSome, option_and_then, subst, arith}
+use Rattle.std.proofs.Common.{◌≡◌, ◌≢◌, ◌⊎◌, ◌↔◌, inl, inr, refl, ap, sym, ◌∙◌, ℕ, ◌<◌, ◌≤◌, false, List, [], Option, Some, None, IsSome, option_and_then, subst, arith}
 use Rattle.gv_values.specs.Counts.{HasRisen}
 use Rattle.gv_io.specs.Streams.{appended}
 use Rattle.command_words.specs.Ranges.{AreAnswersInRange, IsInRange as IsCommandInRange}
@@ -8,6 +8,7 @@ use Rattle.command_words.specs.Words as words
 use Rattle.command_words.specs.declared.command.NamedCommand.{NamedCommand}
 use Rattle.command_words.specs.declared.command.NamedCommand.TheVariants as named
 use Rattle.command_words.specs.declared.command.GatewayKind.{GatewayKind}
+use Rattle.command_words.specs.declared.command.PassOptions.{PassOptions}
 use Rattle.command_words.specs.declared.command.ServeAnswers.{ServeAnswers}
 use Rattle.command_words.specs.declared.command.ServeOptions.{ServeOptions}
 use Rattle.wsgi_core.specs.Applications.{App}
@@ -15,6 +16,7 @@ use Rattle.wsgi_core.specs.Session.{answers}
 use Rattle.world.specs.LegalLogs.{HasLegalLog}
 use Rattle.world.specs.Outside.{WorldMeaning as World}
 use Rattle.world_rules.specs.declared.question.LogEntry.{LogEntry}
+use Rattle.stream_dial.specs.Dials.{DialMeaning}
 use Rattle.stream_net.specs.Net.{Connection, IsAtRest, IsFresh, NetMeaning}
 use Rattle.stream_server.specs.declared.limits.Limits.{Limits}
 use Rattle.stream_server.specs.Owning.{Owner}
@@ -26,9 +28,11 @@ use Rattle.wsgi_native.specs.JobApp.{job_app}
 use Rattle.wsgi_native.specs.Tied.{HasPosted, IsInOrder}
 use Rattle.serve_command.specs.declared.serving.Served.{Served}
 use Rattle.serve_command.specs.Jobs.{ServesJobsAt}
+use Rattle.serve_command.specs.Relay.{ServesRelayAt}
 use Rattle.serve_command.specs.Serving.{ServesAt, listening}
 use Rattle.serve_command.proofs.Ends.{memory_no_jobs, memory_unfinished, none_served, spent_as}
 use Rattle.serve_command.proofs.JobsEnds.{none_served_jobs}
+use Rattle.serve_command.proofs.RelayEnds.{none_served_relay}
 use Rattle.gv_top.specs.declared.status.Verdict.{Verdict}
 use Rattle.gv_top.specs.declared.words.OfflineCommand.{OfflineCommand}
 use Rattle.gv_top.specs.Gateway.{answers_by}
@@ -151,11 +155,13 @@ nobody_served_natively workers asked limits w before after stands out0 out1 fres
   begun = inr (kept, fresh.none);
 }
 
-pub nobody_served : (answers : ServeAnswers) (asked : ℕ) (app : App) (limits : Limits) (w : NetMeaning) (before after : World) (stands : List LogEntry → Type 0) (out0 out1 : Option (List ℕ)) → IsFresh w → after ≡ before → out1 ≡ out0
-    → ServesWith answers Served.Memory asked app limits w before after stands out0 out1
-nobody_served (ServeAnswers.Application gateway) asked app limits w before after stands out0 out1 fresh kept same =
+pub nobody_served : (answers : ServeAnswers) (asked : ℕ) (app : App) (limits : Limits) (w : NetMeaning) (v : DialMeaning) (before after : World) (stands : List LogEntry → Type 0) (out0 out1 : Option (List ℕ)) → IsFresh w → v.streams ≡ [] → after ≡ before → out1 ≡ out0
+    → ServesWith answers Served.Memory asked app limits w v before after stands out0 out1
+nobody_served (ServeAnswers.Application gateway) asked app limits w v before after stands out0 out1 fresh undialled kept same =
     none_served Rests (λ port. ⊥) Served.Memory asked (answers_by gateway) app limits w out0 out1 0 memory_unfinished memory_no_jobs fresh.none fresh.none_live (left_as_it_was out0 out1 (listening 0) same) (inl same)
-nobody_served (ServeAnswers.Jobs workers) asked app limits w before after stands out0 out1 fresh kept same = nobody_served_natively workers asked limits w before after stands out0 out1 fresh kept same
+nobody_served (ServeAnswers.Jobs workers) asked app limits w v before after stands out0 out1 fresh undialled kept same = nobody_served_natively workers asked limits w before after stands out0 out1 fresh kept same
+nobody_served (ServeAnswers.Passing options) asked app limits w v before after stands out0 out1 fresh undialled kept same =
+    none_served_relay Served.Memory options.port options.patience asked limits w v out0 out1 0 memory_unfinished memory_no_jobs fresh.none fresh.none_live (left_as_it_was out0 out1 (listening 0) same) (inl same) undialled
 
 -- ---- where native workers served
 
@@ -218,8 +224,8 @@ serves_after : (end : Served) (asked : ℕ) (limits : Limits) (w : NetMeaning) (
 unfolding spent_as
 serves_after end asked limits w v out0 out1 h = record {
   serves = spent_as IsAtRest (λ port. IsOutOfJobs port w v) (λ port. IsOutOfJobs port w (stopped v)) end asked answers job_app limits w out0 out1 (λ port vain. vain_after port w v vain) h.serves;
-  earned = earned_after h.serves.port w.connections v h.earned;
-  out_of_jobs = λ vain. h.out_of_jobs (vain_before h.serves.port w v vain);
+  earned = earned_after h.serves.has.port w.connections v h.earned;
+  out_of_jobs = λ vain. h.out_of_jobs (vain_before h.serves.has.port w v vain);
 }
 
 logged_after : (v : World) (stood stands : List LogEntry → Type 0) → ((log : List LogEntry) → stood log ↔ stands log) → HasLegalLog v stood → HasLegalLog (stopped v) stands
@@ -243,15 +249,18 @@ served_natively workers end asked limits w before v after stood stands out0 out1
 
 -- ---- what these answers serve with
 
-pub served_with_app : (given : ServeAnswers) (gateway : GatewayKind) (end : Served) (asked : ℕ) (app : App) (limits whole : Limits) (w : NetMeaning) (before after : World) (stands : List LogEntry → Type 0) (out0 out1 : Option (List ℕ)) → given ≡ ServeAnswers.Application gateway → limits ≡ whole
-    → ServesAt end asked (answers_by gateway) app limits w out0 out1 → ServesWith given end asked app whole w before after stands out0 out1
-served_with_app given gateway end asked app limits whole w before after stands out0 out1 is fit h =
-    subst (λ (a : ServeAnswers). ServesWith a end asked app whole w before after stands out0 out1) (sym is) (subst (λ (l : Limits). ServesAt end asked (answers_by gateway) app l w out0 out1) fit h)
+module _ (given : ServeAnswers) (end : Served) (asked : ℕ) (app : App) (limits whole : Limits) (w : NetMeaning) (v : DialMeaning) (before after : World) (stands : List LogEntry → Type 0) (out0 out1 : Option (List ℕ)) where
+  pub served_with_app : (gateway : GatewayKind) → given ≡ ServeAnswers.Application gateway → limits ≡ whole → ServesAt end asked (answers_by gateway) app limits w out0 out1
+      → ServesWith given end asked app whole w v before after stands out0 out1
+  served_with_app gateway is fit h = subst (λ (a : ServeAnswers). ServesWith a end asked app whole w v before after stands out0 out1) (sym is) (subst (λ (l : Limits). ServesAt end asked (answers_by gateway) app l w out0 out1) fit h)
 
-pub served_with_jobs : (given : ServeAnswers) (workers : ℕ) (end : Served) (asked : ℕ) (app : App) (limits whole : Limits) (w : NetMeaning) (before after : World) (stands : List LogEntry → Type 0) (out0 out1 : Option (List ℕ)) → given ≡ ServeAnswers.Jobs workers → limits ≡ whole
-    → ServesNatively workers end asked limits w before after stands out0 out1 → ServesWith given end asked app whole w before after stands out0 out1
-served_with_jobs given workers end asked app limits whole w before after stands out0 out1 is fit h =
-    subst (λ (a : ServeAnswers). ServesWith a end asked app whole w before after stands out0 out1) (sym is) (subst (λ (l : Limits). ServesNatively workers end asked l w before after stands out0 out1) fit h)
+  pub served_with_jobs : (workers : ℕ) → given ≡ ServeAnswers.Jobs workers → limits ≡ whole → ServesNatively workers end asked limits w before after stands out0 out1
+      → ServesWith given end asked app whole w v before after stands out0 out1
+  served_with_jobs workers is fit h = subst (λ (a : ServeAnswers). ServesWith a end asked app whole w v before after stands out0 out1) (sym is) (subst (λ (l : Limits). ServesNatively workers end asked l w before after stands out0 out1) fit h)
+
+  pub served_with_relay : (options : PassOptions) → given ≡ ServeAnswers.Passing options → limits ≡ whole → ServesRelayAt end options.port options.patience asked limits w v out0 out1
+      → ServesWith given end asked app whole w v before after stands out0 out1
+  served_with_relay options is fit h = subst (λ (a : ServeAnswers). ServesWith a end asked app whole w v before after stands out0 out1) (sym is) (subst (λ (l : Limits). ServesRelayAt end options.port options.patience asked l w v out0 out1) fit h)
 
 -- ---- what a server came to, and its line
 
@@ -261,12 +270,12 @@ told_whole n v w old new e0 e1 (inl e) (inl p) h5 h7 = p.1 ∙ ap (λ x. appende
 told_whole n v w old new e0 e1 (inr q) (inl p) h5 h7 = absurd (h7 (p.0 ∙ ap verdict_status q.0))
 told_whole n v w old new e0 e1 o (inr p) h5 h7 = absurd (h5 p.0)
 
-pub serves_so : (n : ℕ) (app : App) (options : ServeOptions) (end : Served) (w : Verdict) (m : NetMeaning) (before rested after : World) (stands : List LogEntry → Type 0) (out0 begun out1 err0 silent err1 : Option (List ℕ)) (e0 e1 : ℕ) →
-    rested ≡ before → begun ≡ out0 → silent ≡ err0 → ServesWith options.answers end options.port app (limits_of options) m rested after stands begun out1 → IsOr (verdict_of_server end) w → IsVerdictTold n w silent err1 e0 e1 →
-    Serves n app options m before after stands out0 out1 err0 err1
-serves_so n app options end w m before rested after stands out0 begun out1 err0 silent err1 e0 e1 kept same quiet h o l =
-    let P : Option (List ℕ) → Type 0 = λ x. ServesWith options.answers end options.port app (limits_of options) m before after stands x out1 in
-    let R : World → Type 0 = λ x. ServesWith options.answers end options.port app (limits_of options) m x after stands begun out1 in
+pub serves_so : (n : ℕ) (app : App) (options : ServeOptions) (end : Served) (w : Verdict) (m : NetMeaning) (v : DialMeaning) (before rested after : World) (stands : List LogEntry → Type 0) (out0 begun out1 err0 silent err1 : Option (List ℕ)) (e0 e1 : ℕ) →
+    rested ≡ before → begun ≡ out0 → silent ≡ err0 → ServesWith options.answers end options.port app (limits_of options) m v rested after stands begun out1 → IsOr (verdict_of_server end) w → IsVerdictTold n w silent err1 e0 e1 →
+    Serves n app options m v before after stands out0 out1 err0 err1
+serves_so n app options end w m v before rested after stands out0 begun out1 err0 silent err1 e0 e1 kept same quiet h o l =
+    let P : Option (List ℕ) → Type 0 = λ x. ServesWith options.answers end options.port app (limits_of options) m v before after stands x out1 in
+    let R : World → Type 0 = λ x. ServesWith options.answers end options.port app (limits_of options) m v x after stands begun out1 in
     let Q : Option (List ℕ) → Type 0 = λ x. err1 ≡ appended x (verdict_line (verdict_of_server end)) in
     record {
       end = end;
@@ -276,11 +285,11 @@ serves_so n app options end w m before rested after stands out0 begun out1 err0 
     }
 
 -- where memory ran out as the words were read
-pub serves_nobody : (n : ℕ) (app : App) (options : ServeOptions) (m : NetMeaning) (before after : World) (stands : List LogEntry → Type 0) (out0 out1 err0 err1 : Option (List ℕ)) →
-    IsFresh m → after ≡ before → out1 ≡ out0 → (n ≡ 5) ⊎ (n ≡ 7) → Serves n app options m before after stands out0 out1 err0 err1
-serves_nobody n app options m before after stands out0 out1 err0 err1 fresh kept same e = record {
+pub serves_nobody : (n : ℕ) (app : App) (options : ServeOptions) (m : NetMeaning) (v : DialMeaning) (before after : World) (stands : List LogEntry → Type 0) (out0 out1 err0 err1 : Option (List ℕ)) →
+    IsFresh m → v.streams ≡ [] → after ≡ before → out1 ≡ out0 → (n ≡ 5) ⊎ (n ≡ 7) → Serves n app options m v before after stands out0 out1 err0 err1
+serves_nobody n app options m v before after stands out0 out1 err0 err1 fresh undialled kept same e = record {
   end = Served.Memory;
-  serves = nobody_served options.answers options.port app (limits_of options) m before after stands out0 out1 fresh kept same;
+  serves = nobody_served options.answers options.port app (limits_of options) m v before after stands out0 out1 fresh undialled kept same;
   status = inr ((λ z. absurd (omega (arith, z))), e);
   err = by e;
 }

@@ -2,9 +2,10 @@
 use Rattle.std.specs.Prelude.{◌≡◌, ◌≢◌, ◌⊎◌, ℕ, true, List, [], Option}
 use Rattle.gv_io.specs.Streams.{appended}
 use Rattle.command_words.specs.declared.command.ServeAnswers.{ServeAnswers}
-use Rattle.command_words.specs.declared.command.ServeAnswers.TheVariants.{Application, Jobs}
+use Rattle.command_words.specs.declared.command.ServeAnswers.TheVariants.{Application, Jobs, Passing}
 use Rattle.command_words.specs.declared.command.ServeOptions.{ServeOptions}
 use Rattle.wsgi_core.specs.Applications.{App}
+use Rattle.stream_dial.specs.Dials.{DialMeaning}
 use Rattle.stream_net.specs.Net.{NetMeaning}
 use Rattle.stream_server.specs.declared.limits.Limits.{Limits}
 use Rattle.world.specs.Outside.{WorldMeaning as World}
@@ -14,6 +15,7 @@ use Rattle.world.specs.LegalLogs.{HasLegalLog}
 use Rattle.wsgi_native.specs.Tied.{AreNumberedFrom}
 use Rattle.serve_command.specs.declared.serving.Served.{Served}
 use Rattle.serve_command.specs.Jobs.{ServesJobsAt}
+use Rattle.serve_command.specs.Relay.{ServesRelayAt}
 use Rattle.serve_command.specs.Serving.{ServesAt}
 use Rattle.gv_top.specs.Gateway.{answers_by}
 use Rattle.gv_top.specs.Top.{IsStatusOf}
@@ -37,15 +39,17 @@ pub record ServesNatively (workers : ℕ) (end : Served) (asked : ℕ) (limits :
   pub serves : ServesJobsAt end asked limits w after out0 out1
   pub begun : HaveWorked workers after stands ⊎ ((after ≡ before) × (w.connections ≡ []))
 
--- it served so: with this application through this gateway, or with native workers for jobs
-abbrev pub ServesWith : ServeAnswers → Served → ℕ → App → Limits → NetMeaning → World → World → (List LogEntry → Type 0) → Option (List ℕ) → Option (List ℕ) → Type 0
-ServesWith (Application gateway) end asked app limits w before after stands out0 out1 = ServesAt end asked (answers_by gateway) app limits w out0 out1
-ServesWith (Jobs workers) end asked app limits w before after stands out0 out1 = ServesNatively workers end asked limits w before after stands out0 out1
+-- it served so: with this application through this gateway, with native workers for jobs, or with the application server
+-- to which the requests are passed
+abbrev pub ServesWith : ServeAnswers → Served → ℕ → App → Limits → NetMeaning → DialMeaning → World → World → (List LogEntry → Type 0) → Option (List ℕ) → Option (List ℕ) → Type 0
+ServesWith (Application gateway) end asked app limits w v before after stands out0 out1 = ServesAt end asked (answers_by gateway) app limits w out0 out1
+ServesWith (Jobs workers) end asked app limits w v before after stands out0 out1 = ServesNatively workers end asked limits w before after stands out0 out1
+ServesWith (Passing options) end asked app limits w v before after stands out0 out1 = ServesRelayAt end options.port options.patience asked limits w v out0 out1
 
--- The server came to an end at which net and out are so, and the status and the line on err are those of its end. What
+-- The server came to an end at which net, dialled streams and out are so, and the status and the line on err are those of its end. What
 -- native workers were before it and are after it is said where it has jobs.
-pub record Serves (n : ℕ) (app : App) (options : ServeOptions) (w : NetMeaning) (before after : World) (stands : List LogEntry → Type 0) (out0 out1 err0 err1 : Option (List ℕ)) : Type 0 where
+pub record Serves (n : ℕ) (app : App) (options : ServeOptions) (w : NetMeaning) (v : DialMeaning) (before after : World) (stands : List LogEntry → Type 0) (out0 out1 err0 err1 : Option (List ℕ)) : Type 0 where
   pub end : Served
-  pub serves : ServesWith options.answers end options.port app (limits_of options) w before after stands out0 out1
+  pub serves : ServesWith options.answers end options.port app (limits_of options) w v before after stands out0 out1
   pub status : IsStatusOf n (verdict_of_server end)
   pub err : n ≢ 5 → n ≢ 7 → err1 ≡ appended err0 (verdict_line (verdict_of_server end))

@@ -5,7 +5,7 @@ use Rattle.command_words.specs.Words as words
 use Rattle.command_words.specs.declared.command.NamedCommand.{NamedCommand}
 use Rattle.command_words.specs.declared.command.NamedCommand.TheVariants as named
 use Rattle.command_words.specs.declared.command.ServeAnswers.{ServeAnswers}
-use Rattle.command_words.specs.declared.command.ServeAnswers.TheVariants.{Application, Jobs}
+use Rattle.command_words.specs.declared.command.ServeAnswers.TheVariants.{Application, Jobs, Passing}
 use Rattle.command_words.specs.declared.command.ServeOptions.{ServeOptions}
 use Rattle.command_words.specs.declared.command.TextCommand.{TextCommand}
 use Rattle.command_words.specs.declared.command.TextCommand.TheVariants.{Run, Format}
@@ -47,10 +47,21 @@ is_native command = false
 abbrev pub are_native : ServeAnswers → Bool
 are_native (Application gateway) = false
 are_native (Jobs workers) = true
+are_native (Passing options) = false
 
 abbrev pub is_native_server : Option ServeOptions → Bool
 is_native_server (Some options) = are_native options.answers
 is_native_server None = false
+
+-- such a server passes its requests on
+abbrev pub passes_on : ServeAnswers → Bool
+passes_on (Application gateway) = false
+passes_on (Jobs workers) = false
+passes_on (Passing options) = true
+
+abbrev pub is_passing_server : Option ServeOptions → Bool
+is_passing_server (Some options) = passes_on options.answers
+is_passing_server None = false
 
 -- the command reads its input
 abbrev pub reads_input : Option OfflineCommand → Bool

@@ -50,7 +50,7 @@ pub fn answer_through<S: Source, K: Sink, A: Application>(
 
 /// A server whose connections an application answers.
 #[derive(Clone, Copy)]
-pub struct AppServer {
+pub struct GatewayServer {
     /// The gateway through which it answers.
     pub gateway: GatewayKind,
     /// The port at which it listens, or 0 for any, and how much it does.
@@ -61,7 +61,7 @@ pub struct AppServer {
 pub fn serve_through<K: Sink, N: Net, A: Application, H: Wait>(
     rt: &H,
     alloc: Global,
-    server: AppServer,
+    server: GatewayServer,
     out: &mut K,
     net: &mut N,
     app: &A,

@@ -4,6 +4,7 @@ ghost use Rattle.gv_values.specs.Counts.{HasRisen};
 ghost use Rattle.gv_values.specs.declared.limits.TheConstants.{MOST_WORKERS};
 ghost use Rattle.command_words.specs.declared.command.ServeOptions.{ServeOptions as AnyServer};
 ghost use Rattle.wsgi_connection.specs.Connection.{HandedAhead};
+ghost use Rattle.stream_dial.specs.Dials.{HasOpenedNone};
 ghost use Rattle.stream_net.specs.Net.{IsFresh};
 ghost use Rattle.stream_server.specs.Ranges.{IsInRange};
 ghost use Rattle.command_words.specs.Ranges.{AreAnswersInRange};
@@ -23,21 +24,23 @@ ghost use Rattle.gv_top.specs.declared.words.OfflineCommand.{OfflineCommand};
 ghost use Rattle.gv_top.specs.Serving.{Serves, ServesNatively, ServesWith, limits_of};
 ghost use Rattle.run_command.specs.Faults.{Counts};
 ghost use Rattle.gv_top.specs.Top.{HandsOn, seen};
-ghost use Rattle.gv_top.specs.Words.{are_native, offline_command_of, is_native, is_native_server, reads_input, serve_of};
+ghost use Rattle.gv_top.specs.Words.{are_native, offline_command_of, is_native, is_native_server, is_passing_server, passes_on, reads_input, serve_of};
 
-use crate::gateway::{AppServer, serve_through};
+use crate::gateway::{GatewayServer, serve_through};
 use crate::status::verdict_of_server;
 use crate::top::{offline, tell};
 use crate::words::server_options;
 use command_words::{ServeAnswers, ServeOptions, command_of, commands_are_in_range};
 use gv_io::{Sink, Source};
-use serve_command::{Served, serve_jobs_command};
+use serve_command::{RelayTerms, Served, serve_jobs_command, serve_relay_command};
 use std::alloc::Global;
 use std::sync::Wait;
+use stream_dial::Dial;
 use stream_net::Net;
 use stream_server::{Limits, Terms};
 use world::World;
 use wsgi_core::Application;
+use wsgi_relay::AppServer;
 
 /// How much a server of these options does.
 fn limits_of(options: ServeOptions) -> Limits
@@ -88,32 +91,36 @@ fn serve_natively<K: Sink, N: Net, W: World, H: Wait>(
     end
 }
 
-/// What the system gives a server.
+/// What a server is given.
 #[derive(Drop)]
-struct Host<'a, H> {
+struct Host<'a, H, A> {
     /// The leave to wait without end.
     rt: &'a H,
     /// Memory.
     alloc: Global,
+    /// The application.
+    app: &'a A,
 }
 
 /// Serves as the options say.
-fn serve_as<K: Sink, N: Net, W: World, A: Application, H: Wait>(
-    host: &Host<H>,
+fn serve_as<K: Sink, N: Net, W: World, D: Dial, A: Application, H: Wait>(
+    host: &Host<H, A>,
     options: ServeOptions,
     out: &mut K,
     net: &mut N,
     native: &mut W,
-    app: &A,
+    behind: &mut AppServer<D>,
 ) -> Served
     requires rests { (W.meaning native.old).runs ≡ false }
     requires fresh { IsFresh (N.meaning net.old) }
+    requires undialled { HasOpenedNone (D.meaning behind.old.dial) }
     requires in_range { IsInRange (limits_of options) }
     requires answers_in_range { AreAnswersInRange options.answers }
-    ensures serves { ServesWith options.answers result options.port (A.answer_of app.now) (limits_of options) (N.meaning net.new) (W.meaning native.old) (W.meaning native.new) (W.stands_for native.new) (K.written out.old) (K.written out.new) }
+    ensures serves { ServesWith options.answers result options.port (A.answer_of host.now.app.now) (limits_of options) (N.meaning net.new) (D.meaning behind.new.dial) (W.meaning native.old) (W.meaning native.new) (W.stands_for native.new) (K.written out.old) (K.written out.new) }
     ensures told { IsToldFirst options.port (N.meaning net.new) (K.written out.old) (K.handed out.new) }
     ensures handed { K.handed out.old ≡ K.written out.old → result ≢ Served.WriteFault → result ≢ Served.Memory → K.handed out.new ≡ K.written out.new }
     ensures untouched { are_native options.answers ≡ false → native.new ≡ native.old }
+    ensures undialled { passes_on options.answers ≡ false → behind.new ≡ behind.old }
     ensures rests { (W.meaning native.new).runs ≡ false }
     ensures listens { Counts (result ≡ Served.Listener) (N.meaning net.old).faults (N.meaning net.new).faults }
     ensures writes { Counts (result ≡ Served.WriteFault) (K.faults out.old) (K.faults out.new) }
@@ -125,31 +132,41 @@ fn serve_as<K: Sink, N: Net, W: World, A: Application, H: Wait>(
     };
     match options.answers {
         ServeAnswers::Application(gateway) => {
-            let server = AppServer { gateway, terms };
-            serve_through(host.rt, host.alloc, server, out, net, app)
+            let server = GatewayServer { gateway, terms };
+            serve_through(host.rt, host.alloc, server, out, net, host.app)
         }
         ServeAnswers::Jobs(workers) => {
             let server = JobServer { workers, terms };
             serve_natively(host.rt, host.alloc, server, out, net, native)
         }
+        ServeAnswers::Passing(options) => {
+            let relay = RelayTerms {
+                terms,
+                pass: options.port,
+                patience: options.patience,
+            };
+            serve_relay_command(host.rt, host.alloc, relay, out, net, behind)
+        }
     }
 }
 
 /// Serves as the words say, which name `serve`.
-fn serve<K: Sink, N: Net, W: World, A: Application, H: Wait>(
-    host: &Host<H>,
+fn serve<K: Sink, N: Net, W: World, D: Dial, A: Application, H: Wait>(
+    host: &Host<H, A>,
     words: &[String],
     out: &mut K,
     net: &mut N,
     native: &mut W,
-    app: &A,
+    behind: &mut AppServer<D>,
 ) -> Served
     requires rests { (W.meaning native.old).runs ≡ false }
     requires fresh { IsFresh (N.meaning net.old) }
+    requires undialled { HasOpenedNone (D.meaning behind.old.dial) }
     requires named { IsSome (serve_of (map string_bytes words.now)) }
     ensures serves { (options : AnyServer) → serve_of (map string_bytes words.now) ≡ Some options →
-        ServesWith options.answers result options.port (A.answer_of app.now) (limits_of options) (N.meaning net.new) (W.meaning native.old) (W.meaning native.new) (W.stands_for native.new) (K.written out.old) (K.written out.new) }
+        ServesWith options.answers result options.port (A.answer_of host.now.app.now) (limits_of options) (N.meaning net.new) (D.meaning behind.new.dial) (W.meaning native.old) (W.meaning native.new) (W.stands_for native.new) (K.written out.old) (K.written out.new) }
     ensures untouched { is_native_server (serve_of (map string_bytes words.now)) ≡ false → native.new ≡ native.old }
+    ensures undialled { is_passing_server (serve_of (map string_bytes words.now)) ≡ false → behind.new ≡ behind.old }
     ensures rests { (W.meaning native.new).runs ≡ false }
     ensures told { (options : AnyServer) → serve_of (map string_bytes words.now) ≡ Some options →
         IsToldFirst options.port (N.meaning net.new) (K.written out.old) (K.handed out.new) }
@@ -162,7 +179,7 @@ fn serve<K: Sink, N: Net, W: World, A: Application, H: Wait>(
         return Served::Memory;
     };
     match server_options(command) {
-        Some(options) => serve_as(host, options, out, net, native, app),
+        Some(options) => serve_as(host, options, out, net, native, behind),
         // `offline` leaves only words that name a server.
         None => unreachable!(),
     }
@@ -174,7 +191,10 @@ fn serve<K: Sink, N: Net, W: World, A: Application, H: Wait>(
 /// connections as the words say, each as a session of its own with the application (PEP 3333), of HTTP (RFC 9112) or,
 /// with `--gateway scgi`, of SCGI (N. Schemenauer, 2008), and writes `served COUNT`. It may wait without end. With
 /// `--jobs` the application is left aside: the world `native` is begun with so many workers before it and finished after
-/// it, and a request for `/job/KIND/INTEGER` is answered what its job comes to, while the other connections go on.
+/// it, and a request for `/job/KIND/INTEGER` is answered what its job comes to, while the other connections go on. With
+/// `--pass` it is left aside too: each request is passed to the application server at that port of 127.0.0.1, over a
+/// stream of its own (SCGI), and answered what comes back there; 502 where that is no reply, and 504 where it isn't there
+/// within the patience.
 ///
 /// The statuses are those of `offline`, and besides:
 ///
@@ -182,8 +202,8 @@ fn serve<K: Sink, N: Net, W: World, A: Application, H: Wait>(
 /// - 8: with `--jobs`, one more job was asked for than have numbers.
 /// - 10: the net could not listen, or its listener failed.
 ///
-/// After 7, 8 and 10 the connections that are open stay open.
-pub fn gvr<S: Source, K: Sink, E: Sink, W: World, N: Net, A: Application, H: Wait>(
+/// After 7, 8 and 10 the connections and dialled streams that are open stay open.
+pub fn gvr<S: Source, K: Sink, E: Sink, W: World, N: Net, D: Dial, A: Application, H: Wait>(
     rt: &H,
     alloc: Global,
     words: &[String],
@@ -192,10 +212,12 @@ pub fn gvr<S: Source, K: Sink, E: Sink, W: World, N: Net, A: Application, H: Wai
     err: &mut E,
     native: &mut W,
     net: &mut N,
+    behind: &mut AppServer<D>,
     app: &A,
 ) -> u8
     requires rests { (W.meaning native.old).runs ≡ false }
     requires fresh { IsFresh (N.meaning net.old) }
+    requires undialled { HasOpenedNone (D.meaning behind.old.dial) }
     ensures answers { serve_of (map string_bytes words.now) ≡ None →
         AnswersCommand result (A.answer_of app.now) (offline_command_of (map string_bytes words.now)) (W.meaning native.new) (W.stands_for native.new)
         (seen S.remaining S.faults input.old input.new) (seen K.written K.faults out.old out.new) (seen E.written E.faults err.old err.new) }
@@ -223,13 +245,16 @@ pub fn gvr<S: Source, K: Sink, E: Sink, W: World, N: Net, A: Application, H: Wai
     ensures usage_only { result ≡ 2 → (offline_command_of (map string_bytes words.now) ≡ None) × (serve_of (map string_bytes words.now) ≡ None) }
     // `serve` serves: the net was asked for the port of the words, out has its lines, each connection was a session of
     // its own with the application at the port of the first line, and each closed one was closed for a cause; so it is
-    // where native workers answer the requests for jobs, in whichever order. It reads no input.
+    // where native workers answer the requests for jobs, in whichever order, and where an application server answers
+    // each over a stream of its own. It reads no input.
     ensures served { (options : AnyServer) → serve_of (map string_bytes words.now) ≡ Some options →
-        Serves result (A.answer_of app.now) options (N.meaning net.new) (W.meaning native.old) (W.meaning native.new) (W.stands_for native.new) (K.written out.old) (K.written out.new) (E.written err.old) (E.written err.new) }
+        Serves result (A.answer_of app.now) options (N.meaning net.new) (D.meaning behind.new.dial) (W.meaning native.old) (W.meaning native.new) (W.stands_for native.new) (K.written out.old) (K.written out.new) (E.written err.old) (E.written err.new) }
     ensures told { (options : AnyServer) → serve_of (map string_bytes words.now) ≡ Some options →
         IsToldFirst options.port (N.meaning net.new) (K.written out.old) (K.handed out.new) }
     ensures network_fault { result ≡ 10 → IsSome (serve_of (map string_bytes words.now)) × HasRisen (N.meaning net.old).faults (N.meaning net.new).faults }
     ensures net_unfailed { result ≢ 5 → result ≢ 10 → (N.meaning net.new).faults ≡ (N.meaning net.old).faults }
+    // Streams are dialled by a server that passes its requests on, and by nothing else.
+    ensures behind_alone { is_passing_server (serve_of (map string_bytes words.now)) ≡ false → behind.new ≡ behind.old }
     ensures net_alone { serve_of (map string_bytes words.now) ≡ None → net.new ≡ net.old }
     ensures net_never_falls { (N.meaning net.old).faults ≤ (N.meaning net.new).faults }
     ensures input_never_falls { S.faults input.old ≤ S.faults input.new }
@@ -239,8 +264,8 @@ pub fn gvr<S: Source, K: Sink, E: Sink, W: World, N: Net, A: Application, H: Wai
     match offline(alloc, words, input, out, err, native, app) {
         Some(status) => status,
         None => {
-            let host = Host { rt, alloc };
-            let end = serve(&host, words, out, net, native, app);
+            let host = Host { rt, alloc, app };
+            let end = serve(&host, words, out, net, native, behind);
             tell(alloc, verdict_of_server(end), err)
         }
     }

@@ -5,12 +5,13 @@
 mod fallback_edge;
 
 ghost use Rattle.std.specs.Prelude.{◌≡◌, false};
+ghost use Rattle.stream_dial.specs.Dials.{HasOpenedNone};
 ghost use Rattle.stream_net.specs.Net.{IsFresh};
 
 use crate::fallback_edge::{DeafEar, MuteBell, ProgramClock};
 use gv_io::{StdSink, StdSource};
 use gv_top::gvr;
-use mio_net::MioNet;
+use mio_net::{MioDial, MioNet, Upstream};
 use native_board::Bell;
 use native_pool::{
     Ear, NoThreads, OpenGate, PollEar, Spawner, StartThread, ThreadSpawner, ThreadWorld, WakerBell,
@@ -23,9 +24,11 @@ use std::process::ExitCode;
 use std::sync::Wait;
 use std::thread::Threads;
 use std::{env, io};
+use stream_dial::Dial;
 use stream_net::Net;
 use world::World;
 use wsgi_core::ShippedApp;
+use wsgi_relay::AppServer;
 
 /// How many bytes of the trace are kept back before they are written out.
 const TRACE_CAPACITY: usize = 65536;
@@ -54,16 +57,18 @@ fn words(rt: &HostRuntime) -> Result<Vec<String>, AllocError> {
     Ok(words)
 }
 
-/// Does what the words name over the real streams and this world and net; gives its status.
-fn run_streams<H: Wait, W: World, N: Net>(
+/// Does what the words name over the real streams and this world, net and dial; gives its status.
+fn run_streams<H: Wait, W: World, N: Net, D: Dial>(
     rt: HostRuntime,
     handle: &H,
     words: &[String],
     native: &mut W,
     net: &mut N,
+    behind: &mut AppServer<D>,
 ) -> Result<u8, AllocError>
     requires rests { (W.meaning native.old).runs ≡ false }
     requires fresh { IsFresh (N.meaning net.old) }
+    requires undialled { HasOpenedNone (D.meaning behind.old.dial) }
 {
     let mut input = StdSource::new(rt.reader());
     let mut err = StdSink::new(rt.alloc(), rt.stderr().lock(), LINE_CAPACITY)?;
@@ -77,12 +82,13 @@ fn run_streams<H: Wait, W: World, N: Net>(
         &mut err,
         native,
         net,
+        behind,
         &ShippedApp,
     ))
 }
 
-/// Does what the program's words name over this world and the net of the system's sockets; gives its status. The net is
-/// woken where the descriptor may be read.
+/// Does what the program's words name over this world and the system's sockets; gives its status. The net is woken where
+/// the descriptor may be read, and by what comes on a dialled stream.
 fn run_words<H: Wait, W: World>(
     rt: HostRuntime,
     handle: &H,
@@ -95,8 +101,13 @@ fn run_words<H: Wait, W: World>(
     let Ok(mut net) = MioNet::new(rt, rt.alloc()) else {
         return Err(AllocError);
     };
-    net.watch(bell);
-    let status = run_streams(rt, handle, words.as_slice(), native, &mut net);
+    // Its port and patience are told by the words.
+    let Ok(dial) = MioDial::new(rt, rt.alloc(), Upstream::Port(0)) else {
+        return Err(AllocError);
+    };
+    net.watch(&[bell, dial.descriptor()]);
+    let mut behind = AppServer { dial, patience: 0 };
+    let status = run_streams(rt, handle, words.as_slice(), native, &mut net, &mut behind);
     net.let_go();
     status
 }

@@ -83,8 +83,8 @@ written_unfailed W.Memory faults e = refl
 set_by : (streams : List Connection) (k : ℕ) (change other : Connection → Connection) → change (connection_at streams k) ≡ other (connection_at streams k) → set streams k (change (connection_at streams k)) ≡ set streams k (other (connection_at streams k))
 set_by streams k change other e = ap (λ (c : Connection). set streams k c) e
 
-module _ (n : DialNotes) (slot moment now : ℕ) (rises : moment ≤ now) where
-  pub one_read : (end : ReadEnd) (bytes : List ℕ) (after : DialNotes) → after ≡ read_noted slot end bytes now n → ReadsIn (meaning_in n moment) (meaning_in after now) slot end bytes
+module _ (n : DialNotes) (towards : Option ℕ) (slot moment now : ℕ) (rises : moment ≤ now) where
+  pub one_read : (end : ReadEnd) (bytes : List ℕ) (after : DialNotes) → after ≡ read_noted slot end bytes now n → ReadsIn (meaning_in n towards moment) (meaning_in after towards now) slot end bytes
   one_read end bytes after e = record {
     reads = λ number is.
         let faults = (connection_at n.streams number).faults in
@@ -96,10 +96,10 @@ module _ (n : DialNotes) (slot moment now : ℕ) (rises : moment ≤ now) where
           failed = read_failed end faults;
           unfailed = read_unfailed end faults;
         };
-    none = record { opened = ap (λ (m : DialNotes). m.opened) e; slots = ap (λ (m : DialNotes). number_in m.slots) e };
+    none = record { opened = ap (λ (m : DialNotes). m.opened) e; slots = ap (λ (m : DialNotes). number_in m.slots) e; towards = refl };
   }
 
-  pub one_written : (end : WriteEnd) (bytes : List ℕ) (after : DialNotes) → after ≡ write_noted slot end bytes now n → WritesIn (meaning_in n moment) (meaning_in after now) slot end bytes
+  pub one_written : (end : WriteEnd) (bytes : List ℕ) (after : DialNotes) → after ≡ write_noted slot end bytes now n → WritesIn (meaning_in n towards moment) (meaning_in after towards now) slot end bytes
   one_written end bytes after e = record {
     writes = λ number is.
         let faults = (connection_at n.streams number).faults in
@@ -111,18 +111,18 @@ module _ (n : DialNotes) (slot moment now : ℕ) (rises : moment ≤ now) where
           failed = written_failed end faults;
           unfailed = written_unfailed end faults;
         };
-    none = record { opened = ap (λ (m : DialNotes). m.opened) e; slots = ap (λ (m : DialNotes). number_in m.slots) e };
+    none = record { opened = ap (λ (m : DialNotes). m.opened) e; slots = ap (λ (m : DialNotes). number_in m.slots) e; towards = refl };
   }
 
-  pub one_closed : (after : DialNotes) → after ≡ noted (WasClosed slot now) n → ClosesIn (meaning_in n moment) (meaning_in after now) slot
+  pub one_closed : (after : DialNotes) → after ≡ noted (WasClosed slot now) n → ClosesIn (meaning_in n towards moment) (meaning_in after towards now) slot
   one_closed after e = record {
     closes = λ number is. one_changed n.streams after.streams (Some number) number moment now (closed_at now) refl rises
         (ap (λ (m : DialNotes). m.streams) e ∙ ap (λ (o : Option ℕ). changed_in o (closed_at now) n.streams) is);
-    none = record { opened = ap (λ (m : DialNotes). m.opened) e; slots = ap (λ (m : DialNotes). number_in m.slots) e };
+    none = record { opened = ap (λ (m : DialNotes). m.opened) e; slots = ap (λ (m : DialNotes). number_in m.slots) e; towards = refl };
   }
 
   pub one_opened : (after : DialNotes) → after ≡ noted (Opened slot now) n → ((number : ℕ) → number_in n.slots slot ≡ Some number → (connection_at n.streams number).closed ≡ true)
-      → Opens (meaning_in n moment) (meaning_in after now) slot
+      → Opens (meaning_in n towards moment) (meaning_in after towards now) slot
   one_opened after e free = record {
     was_free = free;
     stream = new_stream now;
@@ -131,6 +131,7 @@ module _ (n : DialNotes) (slot moment now : ℕ) (rises : moment ≤ now) where
     opened = ap (λ (m : DialNotes). m.opened) e;
     number = ap (λ (m : DialNotes). number_in m.slots slot) e ∙ taken_here n.slots slot (length n.streams);
     others = λ other differ. ap (λ (m : DialNotes). number_in m.slots other) e ∙ taken_elsewhere n.slots slot (length n.streams) other differ;
+    towards = refl;
     moment = rises;
   }
 

@@ -1,12 +1,19 @@
 -- What dialled streams of the system mean.
-use Rattle.std.specs.Prelude.{◌≡◌, ℕ, ◌<◌, true, length, Some, None}
+use Rattle.std.specs.Prelude.{◌≡◌, ℕ, ◌<◌, true, length, Option, Some, None}
 use Rattle.slab.specs.Slab.{Slab, get}
 use Rattle.stream_net.specs.Net.{connection_at}
 use Rattle.stream_dial.specs.Dials.{DialMeaning}
 use Rattle.mio_net.specs.Annals.{DialNotes, number_in}
+use Rattle.mio_net.specs.declared.dial_edge.Upstream.{Upstream}
+use Rattle.mio_net.specs.declared.dial_edge.Upstream.TheVariants.{Port, Socket}
 
-abbrev pub meaning_in : DialNotes → ℕ → DialMeaning
-meaning_in n moment = record { streams = n.streams; opened = n.opened; slots = number_in n.slots; moment = moment }
+-- the port, where streams are opened towards one
+abbrev pub port_of : Upstream → Option ℕ
+port_of (Port port) = Some port
+port_of (Socket address) = None
+
+abbrev pub meaning_in : DialNotes → Option ℕ → ℕ → DialMeaning
+meaning_in n towards moment = record { streams = n.streams; opened = n.opened; slots = number_in n.slots; towards = towards; moment = moment }
 
 -- each slot has one of the streams, which is closed where nothing is kept in the slot
 pub record AreKept {T : Type 0} (n : DialNotes) (kept : Slab T) : Type 0 where

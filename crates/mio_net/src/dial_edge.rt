@@ -56,13 +56,17 @@ fn register(poll: &Poll, stream: &mut Stream, token: Token) -> io::Result<()> {
     }
 }
 
-/// A stream that begins to connect and is polled under the number of its slot. None where the system refused it at once.
+/// A stream that begins to connect and is polled under the number of its slot. None where the system refused it at once
+/// or there is no poll.
 pub fn open_stream<R: std::net::Net>(
     rt: &R,
-    poll: &Poll,
+    poll: &Option<Poll>,
     upstream: &Upstream,
     slot: usize,
 ) -> Option<Stream> {
+    let Some(poll) = poll else {
+        return None;
+    };
     let mut stream = connect(rt, upstream).ok()?;
     register(poll, &mut stream, Token(slot)).ok()?;
     Some(stream)
@@ -125,7 +129,10 @@ pub fn write_stream(stream: &Stream, first: &[u8], second: &[u8]) -> WriteEnd
 
 /// Puts the slots that the poll tells of into the queue, which is empty and has room for them, so that the first is
 /// taken first. Nothing is waited for.
-pub fn poll_slots(poll: &mut Poll, events: &mut Events<Global>, queue: &mut Vec<usize>) {
+pub fn poll_slots(poll: &mut Option<Poll>, events: &mut Events<Global>, queue: &mut Vec<usize>) {
+    let Some(poll) = poll else {
+        return;
+    };
     // A poll that fails tells of nothing; the next one may.
     if poll.poll(events, Some(Duration::ZERO)).is_err() {
         return;

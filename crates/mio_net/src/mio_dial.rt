@@ -15,7 +15,8 @@ use std::time::Instant;
 use stream_dial::Dial;
 use stream_net::{ReadEnd, WriteEnd};
 
-/// Streams of the system towards one address, which are polled apart from all else.
+/// Streams of the system towards one address, which are polled apart from all else. Without a poll of the system none is
+/// reached.
 ///
 /// The moment is the milliseconds since it was made, as the clock gave them at the last opening, read or write, or when
 /// the system was last asked for news. A stream that the system refuses at once, as where there is no room for one more
@@ -25,7 +26,7 @@ pub struct MioDial<R> {
     rt: R,
     upstream: Upstream,
     start: Option<Instant>,
-    poll: Poll,
+    poll: Option<Poll>,
     events: Events<Global>,
     // The slots that were told and weren't yet named, the last first.
     queue: Vec<usize>,
@@ -61,15 +62,15 @@ fn write_slot(streams: &Slab<Option<Stream>>, slot: usize, first: &[u8], second:
 }
 
 impl<R: std::net::Net + Clock + Drop> MioDial<R> {
-    ghost use Rattle.mio_net.specs.Dialled.{meaning_in};
+    ghost use Rattle.mio_net.specs.Dialled.{meaning_in, port_of};
     ghost use Rattle.stream_dial.specs.Dials.{HasOpenedNone};
 
     /// Streams towards this, none of them opened yet.
     pub fn new(rt: R, alloc: Global, upstream: Upstream) -> io::Result<MioDial<R>>
-        ensures { IfOk result (λ dial. HasOpenedNone (meaning_in dial.annals.notes dial.moment)) }
+        ensures { IfOk result (λ dial. HasOpenedNone (meaning_in dial.annals.notes (port_of dial.upstream) dial.moment)) }
     {
         let start = Instant::now(&rt).ok();
-        let poll = Poll::new(&rt)?;
+        let poll = Poll::new(&rt).ok();
         let events = Events::with_capacity(alloc, EVENTS)?;
         let queue = Vec::with_capacity(alloc, EVENTS)?;
         Ok(MioDial {
@@ -85,16 +86,23 @@ impl<R: std::net::Net + Clock + Drop> MioDial<R> {
         })
     }
 
-    /// What may be read once `next` may name a slot.
-    pub fn descriptor(&self) -> RawFd {
-        self.poll.as_raw_fd()
+    /// What may be read once `next` may name a slot, where there is a poll.
+    pub fn descriptor(&self) -> Option<RawFd> {
+        match &self.poll {
+            Some(poll) => Some(poll.as_raw_fd()),
+            None => None,
+        }
     }
 }
 
 impl<R: std::net::Net + Clock + Drop> Dial for MioDial<R> {
-    ghost use Rattle.mio_net.specs.Dialled.{meaning_in};
+    ghost use Rattle.mio_net.specs.Dialled.{meaning_in, port_of};
 
-    ghost meaning = { λ d. meaning_in d.annals.notes d.moment };
+    ghost meaning = { λ d. meaning_in d.annals.notes (port_of d.upstream) d.moment };
+
+    fn aim(&mut self, port: u16) {
+        self.upstream = Upstream::Port(port);
+    }
 
     fn dial(&mut self) -> Result<usize, AllocError> {
         self.streams.reserve(1)?;

@@ -53,7 +53,7 @@ pub struct MioNet<R> {
     listener: Option<TcpListener>,
     // Whether somebody may wait: the listener was told of since nobody was found.
     arrived: bool,
-    // Whether a descriptor is watched beside them.
+    // Whether descriptors are watched beside them.
     woken: bool,
     endpoints: Vec<Endpoint>,
     lingering: Lingering,
@@ -112,6 +112,16 @@ fn accept_stream(
         Taken::Full if lingering.let_first_go() => next_stream(poll, listener, number),
         taken => taken,
     }
+}
+
+/// Whether the poll takes all of these descriptors.
+fn watches_all(poll: &Option<Poll>, descriptors: &[Option<RawFd>]) -> bool {
+    for descriptor in descriptors {
+        if !watches(poll, *descriptor) {
+            return false;
+        }
+    }
+    true
 }
 
 /// Whether the poll takes the descriptor, where there are both.
@@ -177,13 +187,13 @@ impl<R: std::net::Net + Clock + Drop> MioNet<R> {
         })
     }
 
-    /// Has a wait end also where this descriptor may be read, if there is one and the system's poll takes it. It stays
-    /// open until the net is let go.
-    pub fn watch(&mut self, descriptor: Option<RawFd>)
+    /// Has a wait end also where one of these descriptors may be read, if all are there and the system's poll takes them.
+    /// They stay open until the net is let go.
+    pub fn watch(&mut self, descriptors: &[Option<RawFd>])
         ensures { IsFresh (meaning_by self.old.endpoints.items self.old.most self.old.moment self.old.listens self.old.faults self.old.blocked)
             → IsFresh (meaning_by self.new.endpoints.items self.new.most self.new.moment self.new.listens self.new.faults self.new.blocked) }
     {
-        self.woken = watches(&self.poll, descriptor);
+        self.woken = watches_all(&self.poll, descriptors);
     }
 
     /// Waits until no closed connection lingers, at most a second. All that are open are let go at once.

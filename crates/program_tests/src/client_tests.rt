@@ -19,9 +19,11 @@ use std::sync::Wait;
 use std::test::Fail;
 use std::thread::{JoinHandle, Threads};
 use std::{io, thread};
+use stream_dial::MemoryDial;
 use stream_net::Net;
 use world::World;
 use wsgi_core::ShippedApp;
+use wsgi_relay::AppServer;
 
 /// How many clients ask and read.
 const CLIENTS: u32 = 64;
@@ -101,6 +103,8 @@ fn call_over<H: Wait, N: Net, W: World>(
     let mut err = MemorySink::new(alloc, 100)?;
     let mut out = MemorySink::new(alloc, 100)?;
     let mut input = MemorySource::new(Vec::new(alloc), 1, Vec::new(alloc));
+    let dial = MemoryDial::new(alloc, Vec::new(alloc));
+    let mut behind = AppServer { dial, patience: 0 };
     let status = gvr(
         rt,
         alloc,
@@ -110,6 +114,7 @@ fn call_over<H: Wait, N: Net, W: World>(
         &mut err,
         native,
         net,
+        &mut behind,
         &ShippedApp,
     );
     Ok(Left { status, out })

@@ -1,7 +1,7 @@
 //! `serve` through the call, over nets in memory.
 ghost use Rattle.std.specs.Prelude.{◌<◌, ◌^◌, length, IfOk};
 
-use crate::served::{Served, is_served, sending, three, two};
+use crate::served::{Served, is_passed, is_served, sending, three, two};
 use std::alloc::{AllocError, Global};
 use std::sync::Wait;
 use stream_net::{ConnScript, MemoryNet};
@@ -237,4 +237,52 @@ fn the_second_connection_fails_at_each_call(rt: HostRuntime) {
     assert!(rt; is_sent_in_small_writes(&rt, alloc, None, HELLO_AND_CLOSE) == Ok(true));
     let differs = small_write_that_differs(&rt, alloc);
     assert!(rt; differs.is_none(), "{differs:?}");
+}
+
+/// A reply of an application server.
+const REPLY: &[u8] =
+    b"Status: 404 Not Found\r\nContent-Type: text/plain\r\nContent-Length: 8\r\n\r\nnowhere\n";
+
+/// What the client is sent of it.
+const PASSED: &[u8] =
+    b"HTTP/1.1 404 Not Found\r\nContent-Type: text/plain\r\nContent-Length: 8\r\nConnection: close\r\n\r\nnowhere\n";
+
+/// What the client is sent where the application server can't be reached.
+const UNREACHED: &[u8] =
+    b"HTTP/1.1 502 Bad Gateway\r\nContent-Type: text/plain\r\nContent-Length: 12\r\nConnection: close\r\n\r\nbad gateway\n";
+
+/// A connection that sends a whole request.
+fn one_whole(alloc: Global) -> Result<Vec<ConnScript>, AllocError>
+    ensures { IfOk result (λ scripts. length scripts.items < 2 ^ 32) }
+{
+    let whole = sending(alloc, &[WHOLE], &[])?;
+    Ok(vec![in alloc; whole]?)
+}
+
+/// Whether a whole request is answered so by a server behind which an application server takes these streams.
+fn is_passed_so<H: Wait>(
+    rt: &H,
+    alloc: Global,
+    streams: Vec<ConnScript>,
+    sent: &[u8],
+) -> Result<bool, AllocError> {
+    let served = Served {
+        words: "serve --port 8080 --conns 1 --pass 9000 --patience 1000",
+        room: 100,
+        status: 0,
+        out: b"listening 8080\nserved 1\n",
+        err: b"",
+    };
+    let mut net = MemoryNet::new(alloc, 8080, one_whole(alloc)?);
+    let holds = is_passed(rt, alloc, &served, &mut net, streams);
+    Ok(holds == Ok(true) && net.written(0) == Some(sent))
+}
+
+#[test]
+fn an_application_server_answers(rt: HostRuntime) -> Result<(), AllocError> {
+    let alloc = rt.alloc();
+    let replies = vec![in alloc; sending(alloc, &[REPLY], &[])?]?;
+    assert!(rt; is_passed_so(&rt, alloc, replies, PASSED) == Ok(true));
+    assert!(rt; is_passed_so(&rt, alloc, Vec::new(alloc), UNREACHED) == Ok(true));
+    Ok(())
 }

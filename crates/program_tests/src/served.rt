@@ -9,9 +9,11 @@ use gv_values::Answer;
 use http_messages::Sequence;
 use std::alloc::{AllocError, Global};
 use std::sync::Wait;
+use stream_dial::MemoryDial;
 use stream_net::{Arrivals, ConnScript, Net, Piece, Rooms};
 use world::{ListWorld, ScriptWorld, World};
 use wsgi_core::ShippedApp;
+use wsgi_relay::AppServer;
 
 /// A call of `serve`, and what it leaves.
 #[derive(Clone, Copy)]
@@ -25,6 +27,13 @@ pub(crate) struct Served<'a> {
     pub(crate) err: &'a [u8],
 }
 
+/// What a call is made with: its words, and the streams that it may dial.
+#[derive(Drop)]
+struct Call<'a> {
+    words: &'a str,
+    streams: Vec<ConnScript>,
+}
+
 /// What a call writes.
 #[derive(Drop)]
 struct Written {
@@ -36,7 +45,7 @@ struct Written {
 fn serve_net<N: Net, W: World, H: Wait>(
     rt: &H,
     alloc: Global,
-    line: &str,
+    call: Call,
     net: &mut N,
     native: &mut W,
     written: &mut Written,
@@ -44,8 +53,10 @@ fn serve_net<N: Net, W: World, H: Wait>(
     requires fresh { IsFresh (N.meaning net.old) }
     requires rests { (W.meaning native.old).runs ≡ false }
 {
-    let words = words_of(alloc, line)?;
+    let words = words_of(alloc, call.words)?;
     let mut input = MemorySource::new(Vec::new(alloc), 1, Vec::new(alloc));
+    let dial = MemoryDial::new(alloc, call.streams);
+    let mut behind = AppServer { dial, patience: 0 };
     Ok(gvr(
         rt,
         alloc,
@@ -55,17 +66,19 @@ fn serve_net<N: Net, W: World, H: Wait>(
         &mut written.err,
         native,
         net,
+        &mut behind,
         &ShippedApp,
     ))
 }
 
-/// Whether the call over this net and this world leaves what it is to leave.
+/// Whether the call over this net and this world, which may dial these streams, leaves what it is to leave.
 fn is_served_over<N: Net, W: World, H: Wait>(
     rt: &H,
     alloc: Global,
     served: &Served,
     net: &mut N,
     native: &mut W,
+    streams: Vec<ConnScript>,
 ) -> Result<bool, AllocError>
     requires fresh { IsFresh (N.meaning net.old) }
     requires rests { (W.meaning native.old).runs ≡ false }
@@ -73,7 +86,11 @@ fn is_served_over<N: Net, W: World, H: Wait>(
     let out = MemorySink::new(alloc, served.room)?;
     let err = MemorySink::new(alloc, 100)?;
     let mut written = Written { out, err };
-    let status = serve_net(rt, alloc, served.words, net, native, &mut written);
+    let call = Call {
+        words: served.words,
+        streams,
+    };
+    let status = serve_net(rt, alloc, call, net, native, &mut written);
     let is_written = written.out.bytes() == served.out && written.err.bytes() == served.err;
     Ok(status == Ok(served.status) && is_written)
 }
@@ -89,7 +106,8 @@ pub(crate) fn is_served_by<N: Net, H: Wait>(
     requires { IsFresh (N.meaning net.old) }
 {
     let answers = Vec::from_slice(alloc, answers)?;
-    is_served_over(rt, alloc, served, net, &mut ListWorld::new(alloc, answers))
+    let mut native = ListWorld::new(alloc, answers);
+    is_served_over(rt, alloc, served, net, &mut native, Vec::new(alloc))
 }
 
 /// Whether the call over this net leaves what it is to leave.
@@ -101,7 +119,22 @@ pub(crate) fn is_served<N: Net, H: Wait>(
 ) -> Result<bool, AllocError>
     requires { IsFresh (N.meaning net.old) }
 {
-    is_served_over(rt, alloc, served, net, &mut ScriptWorld::new(alloc, 0))
+    let mut native = ScriptWorld::new(alloc, 0);
+    is_served_over(rt, alloc, served, net, &mut native, Vec::new(alloc))
+}
+
+/// Whether the call over this net, behind which an application server takes these streams, leaves what it is to leave.
+pub(crate) fn is_passed<N: Net, H: Wait>(
+    rt: &H,
+    alloc: Global,
+    served: &Served,
+    net: &mut N,
+    streams: Vec<ConnScript>,
+) -> Result<bool, AllocError>
+    requires { IsFresh (N.meaning net.old) }
+{
+    let mut native = ScriptWorld::new(alloc, 0);
+    is_served_over(rt, alloc, served, net, &mut native, streams)
 }
 
 /// Appends these pieces, which arrive at 0.

@@ -1,8 +1,8 @@
 //! Words, and what they ask for.
 use crate::calls::words_of;
 use command_words::{
-    GatewayKind, NamedCommand, RunOptions, RunWorld, ServeAnswers, ServeOptions, TextCommand,
-    command_of,
+    GatewayKind, NamedCommand, PassOptions, RunOptions, RunWorld, ServeAnswers, ServeOptions,
+    TextCommand, command_of,
 };
 use std::alloc::{AllocError, Global};
 
@@ -118,6 +118,32 @@ const NAMED: &[(&str, NamedCommand)] = &[
             answers: ServeAnswers::Jobs(16),
         }),
     ),
+    (
+        "serve --port 8080 --conns 2 --pass 9000",
+        NamedCommand::Serve(ServeOptions {
+            port: 8080,
+            conns: 2,
+            pool: 100,
+            idle: 60000,
+            answers: ServeAnswers::Passing(PassOptions {
+                port: 9000,
+                patience: 60000,
+            }),
+        }),
+    ),
+    (
+        "serve --patience 3600000 --pass=1 --gateway=http --port 0 --conns 7",
+        NamedCommand::Serve(ServeOptions {
+            port: 0,
+            conns: 7,
+            pool: 100,
+            idle: 60000,
+            answers: ServeAnswers::Passing(PassOptions {
+                port: 1,
+                patience: 3600000,
+            }),
+        }),
+    ),
     ("storm --size 19000", NamedCommand::Storm(19000)),
 ];
 
@@ -142,6 +168,13 @@ const NONE: &[&str] = &[
     "serve --port 1 --conns 1 --jobs 0",
     "serve --port 1 --conns 1 --jobs 17",
     "serve --port 1 --conns 1 --jobs 2 --gateway scgi",
+    "serve --port 1 --conns 1 --pass 0",
+    "serve --port 1 --conns 1 --pass 65536",
+    "serve --port 1 --conns 1 --pass 2 --jobs 2",
+    "serve --port 1 --conns 1 --pass 2 --gateway scgi",
+    "serve --port 1 --conns 1 --pass 2 --patience 0",
+    "serve --port 1 --conns 1 --patience 5",
+    "serve --port 1 --conns 1 --jobs 2 --patience 5",
     "wsgi --gateway",
     "wsgi --gateway fcgi",
     "wsgi --gateway=HTTP",

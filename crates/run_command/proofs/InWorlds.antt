@@ -1,5 +1,6 @@
 -- From the calls of a world and of the engine to what a run in it came to.
 use Rattle.std.proofs.Common.{Bool, ◌≡◌, ◌≢◌, ◌⊎◌, ◌↔◌, inl, inr, refl, ap, sym, subst, ◌∙◌, ℕ, ◌<◌, true, false, List, [], ◌∷◌, ◌++◌, Option, Some, append_assoc, append-nil, ◌≤◌, arith}
+use Rattle.std.proofs.Math.Logic.{∥∥₁_map}
 use Rattle.gv_values.specs.Counts.{HasRisen}
 use Rattle.gv_values.specs.declared.job.Answer.{Answer}
 use Rattle.gv_values.specs.declared.limits.TheConstants.{MOST_WORKERS}
@@ -252,10 +253,10 @@ ran_held law posts answers end c turns moves workers k before inner stands w out
     }
 
 -- what was asked of it was asked ahead
-pub held_ahead : (waits : Bool) (end : EngineEnd) (c : Scenario) (turns moves workers k : ℕ) (before inner : WorldMeaning) (w : ScriptWorld) (out0 out1 handed1 : Option (List ℕ)) → 0 < workers
-    → RanInWorld end (run c turns moves) workers before (record (script_meaning w) { reference = k }) (script_log w) out0 out1 → Leads inner (script_meaning w)
+pub held_ahead : (waits : Bool) (end : EngineEnd) (c : Scenario) (turns moves workers k : ℕ) (before inner : WorldMeaning) (stands : List LogEntry → Type 0) (w : ScriptWorld) (out0 out1 handed1 : Option (List ℕ)) → 0 < workers
+    → RanInWorld end (run c turns moves) workers before (record (script_meaning w) { reference = k }) (script_log w) out0 out1 → Leads inner (script_meaning w) → (0 < w.workers → ∥ HasLegalLog inner stands ∥₁)
     → (waits ≡ true → WroteAhead (run c turns moves) w.answers.items out0 handed1) → IsHeldAhead waits (run c turns moves) inner out0 out1 handed1
-held_ahead waits end c turns moves workers k before inner w out0 out1 handed1 some_ h l handed =
+held_ahead waits end c turns moves workers k before inner stands w out0 out1 handed1 some_ h l logged handed =
     let is = script_log_is w h.part.part h.part.stood in
     let begun : 0 < w.workers = subst (λ (x : ℕ). 0 < x) (sym h.workers_are) some_ in
     record {
@@ -265,7 +266,9 @@ held_ahead waits end c turns moves workers k before inner w out0 out1 handed1 so
       begins = h.part.is;
       answers = is.1;
       posts = is.0 ∙ sym (l.same_posts begun);
+      legal = h.legal;
       done = l.ahead;
+      logged = ∥∥₁_map (logged begun) (λ (own : HasLegalLog inner stands). record { log = own.log; stood = tt; posts = own.posts; answers = own.answers; legal = own.legal; untimed = own.untimed });
       written = h.ahead;
       handed = handed;
     }

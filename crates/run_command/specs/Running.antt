@@ -52,9 +52,10 @@ pub record IsNativeAhead (waits : Bool) (whole : List Answer → Ran) (after : W
   pub handed : waits ≡ true → WroteAhead whole after.answers out0 handed1
   pub logged : IsLogged (whole after.answers).log after
 
--- With held order the run is given answers in the order of a script. Native workers were posted what it posts up to the
--- last of these, and answered that a job is done for each that these say so of; and what it says before that answer
--- stood in out then, and was handed on where they may be long in answering.
+-- With held order the run is given answers in the order of a script, each of them legal. Native workers were posted what
+-- it posts up to the last of these, and answered that a job is done for each that these say so of, each of their own
+-- answers legal too; and what it says before that answer stood in out then, and was handed on where they may be long in
+-- answering.
 pub record IsHeldAhead (waits : Bool) (whole : List Answer → Ran) (after : WorldMeaning) (out0 out1 handed1 : Option (List ℕ)) : Type 0 where
   pub given : List Answer
   pub part : List LogEntry
@@ -62,7 +63,9 @@ pub record IsHeldAhead (waits : Bool) (whole : List Answer → Ran) (after : Wor
   pub begins : (whole given).log ≡ part ++ later
   pub answers : answers_of part ≡ given
   pub posts : posts_of part ≡ after.posts
+  pub legal : AreLegal [] [] (whole given).log
   pub done : (number : ℕ) → is_answered number given ≡ true → is_answered number after.answers ≡ true
+  pub logged : ∥ HasLegalLog after (λ log. Unit {0}) ∥₁
   pub written : WroteAhead whole given out0 out1
   pub handed : waits ≡ true → WroteAhead whole given out0 handed1
 

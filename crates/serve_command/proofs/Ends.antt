@@ -11,7 +11,7 @@ use Rattle.stream_server.specs.declared.limits.Limits.{Limits}
 use Rattle.stream_server.specs.Serving.{AllBut, BeginsSo, Cause, EachTold, IsAllServed, IsClosedWell, WaitsToRead}
 use Rattle.serve_command.specs.declared.serving.Served.{Served}
 use Rattle.serve_command.specs.Endings.{Stays}
-use Rattle.serve_command.specs.Serving.{IsToldFirst, ServesSo, listening, served}
+use Rattle.serve_command.specs.Serving.{HasServed, IsToldFirst, ServesSo, listening, served}
 
 -- nothing is said of no connections
 pub no_connection : (cs : List Connection) (P : Connection → List ℕ → List ℕ → Type 0) → cs ≡ [] → EachTold cs P
@@ -58,21 +58,17 @@ told_first asked port w out0 out1 handed1 handed2 told all kept listens some = (
 -- ---- the ends
 
 -- nobody was accepted
-unfoldable pub none_served : (rests : Connection → Type 0) (is_spent : ℕ → Type 0) (end : Served) (asked : ℕ) (answers : Gateway) (app : App) (limits : Limits) (w : NetMeaning) (out0 out1 : Option (List ℕ)) (port : ℕ) → (end ≡ Served.Finished → ⊥) → (end ≡ Served.NoJobs → ⊥) → w.connections ≡ [] → w.most ≡ 0
-    → AppendsPrefix out0 out1 (listening port) → (out1 ≡ out0) ⊎ ((w.listens ≡ listens_at asked port) × (end ≢ Served.WriteFault → out1 ≡ out0)) → ServesSo rests is_spent end asked answers app limits w out0 out1
-none_served rests is_spent end asked answers app limits w out0 out1 port unfinished unspent none most begins listens = record {
+unfoldable pub none_accepted : (rests : Connection → Type 0) (is_spent : ℕ → Type 0) (end : Served) (asked : ℕ) (limits : Limits) (w : NetMeaning) (out0 out1 : Option (List ℕ)) (port : ℕ) → (end ≡ Served.Finished → ⊥) → (end ≡ Served.NoJobs → ⊥) → w.connections ≡ [] → w.most ≡ 0
+    → AppendsPrefix out0 out1 (listening port) → (out1 ≡ out0) ⊎ ((w.listens ≡ listens_at asked port) × (end ≢ Served.WriteFault → out1 ≡ out0)) → HasServed rests is_spent end asked limits w out0 out1
+none_accepted rests is_spent end asked limits w out0 out1 port unfinished unspent none most begins listens = record {
   port = port;
   listens = told listens;
   begins = AppendsPrefix-longer out0 out1 (listening port) (served limits.conns) begins;
   both = λ e. absurd (unfinished e);
   first = λ e. inl (at_once listens (at_no_line end e));
   told = λ some. absurd (let e = ap (λ (xs : List Connection). length xs) none in omega (arith, some, e));
-  own = no_connection w.connections (λ c bytes sent. BeginsSo (said_by answers app port bytes c.ended).bytes sent) none;
-  whole = no_connection w.connections (λ c bytes sent. IsClosedWell c → sent ≡ (said_by answers app port bytes c.ended).bytes) none;
-  answered = no_connection w.connections (λ c bytes sent. WaitsToRead c → sent ≡ (said_by answers app port bytes c.ended).bytes) none;
   resting = λ _ _. subst (All rests) (sym none) (All-nil rests);
   rest_but = nobody_rests rests w.connections none;
-  cause = no_connection w.connections (λ c bytes sent. c.closed ≡ true → Cause (said_by answers app port bytes c.ended) sent limits.idle c) none;
   most = omega (arith, most);
   within = let e = ap (λ (xs : List Connection). length xs) none in omega (arith, e);
   all = λ e. absurd (unfinished e);
@@ -88,28 +84,41 @@ none_served rests is_spent end asked answers app limits w out0 out1 port unfinis
     at_once (inl same) e = same
     at_once (inr h) e = h.1 e
 
+unfoldable pub none_served : (rests : Connection → Type 0) (is_spent : ℕ → Type 0) (end : Served) (asked : ℕ) (answers : Gateway) (app : App) (limits : Limits) (w : NetMeaning) (out0 out1 : Option (List ℕ)) (port : ℕ) → (end ≡ Served.Finished → ⊥) → (end ≡ Served.NoJobs → ⊥) → w.connections ≡ [] → w.most ≡ 0
+    → AppendsPrefix out0 out1 (listening port) → (out1 ≡ out0) ⊎ ((w.listens ≡ listens_at asked port) × (end ≢ Served.WriteFault → out1 ≡ out0)) → ServesSo rests is_spent end asked answers app limits w out0 out1
+unfolding none_accepted
+none_served rests is_spent end asked answers app limits w out0 out1 port unfinished unspent none most begins listens = record {
+  has = none_accepted rests is_spent end asked limits w out0 out1 port unfinished unspent none most begins listens;
+  own = no_connection w.connections (λ c bytes sent. BeginsSo (said_by answers app port bytes c.ended).bytes sent) none;
+  whole = no_connection w.connections (λ c bytes sent. IsClosedWell c → sent ≡ (said_by answers app port bytes c.ended).bytes) none;
+  answered = no_connection w.connections (λ c bytes sent. WaitsToRead c → sent ≡ (said_by answers app port bytes c.ended).bytes) none;
+  cause = no_connection w.connections (λ c bytes sent. c.closed ≡ true → Cause (said_by answers app port bytes c.ended) sent limits.idle c) none;
+}
+
 -- ---- where something else says that no job was left
 
 unfoldable pub spent_as : (rests : Connection → Type 0) (was_spent is_spent : ℕ → Type 0) (end : Served) (asked : ℕ) (answers : Gateway) (app : App) (limits : Limits) (w : NetMeaning) (out0 out1 : Option (List ℕ))
     → ((port : ℕ) → was_spent port → is_spent port) → ServesSo rests was_spent end asked answers app limits w out0 out1 → ServesSo rests is_spent end asked answers app limits w out0 out1
 spent_as rests was_spent is_spent end asked answers app limits w out0 out1 follows h = record {
-  port = h.port;
-  listens = h.listens;
-  begins = h.begins;
-  both = h.both;
-  first = h.first;
-  told = h.told;
+  has = record {
+    port = h.has.port;
+    listens = h.has.listens;
+    begins = h.has.begins;
+    both = h.has.both;
+    first = h.has.first;
+    told = h.has.told;
+    resting = h.has.resting;
+    rest_but = h.has.rest_but;
+    most = h.has.most;
+    within = h.has.within;
+    all = h.has.all;
+    at_line = h.has.at_line;
+    no_jobs = λ e. follows h.has.port (h.has.no_jobs e);
+  };
   own = h.own;
   whole = h.whole;
   answered = h.answered;
-  resting = h.resting;
-  rest_but = h.rest_but;
   cause = h.cause;
-  most = h.most;
-  within = h.within;
-  all = h.all;
-  at_line = h.at_line;
-  no_jobs = λ e. follows h.port (h.no_jobs e);
 }
 
 -- ---- ends that stay
@@ -147,6 +156,28 @@ rests_after R before after (inr h) other listener finished no_jobs memory = fini
 
 -- ---- where the first line was told
 
+module _ (rests : Connection → Type 0) (is_spent : ℕ → Type 0) (asked : ℕ) (limits : Limits) (w : NetMeaning) (out0 out1 out2 : Option (List ℕ)) (port : ℕ) (before end : Served) (told : out1 ≡ appended out0 (listening port))
+    (rest_but : AllBut rests w.connections) (most : w.most ≤ limits.pool) (within : length w.connections ≤ limits.conns) (listens : w.listens ≡ listens_at asked port)
+    (stays : Stays before end) (no_line : before ≢ Served.WriteFault) (more : AppendsPrefix out1 out2 (served limits.conns)) (last : end ≡ Served.Finished → out2 ≡ appended out1 (served limits.conns))
+    (silent : end ≢ Served.Finished → end ≢ Served.WriteFault → out2 ≡ out1) where
+  unfoldable pub has_served : (before ≡ Served.Finished → IsAllServed w limits.conns) → (All (λ c. c.closed ≡ true) w.connections → All rests w.connections) → (before ≡ Served.Listener → All rests w.connections)
+      → (before ≡ Served.NoJobs → is_spent port) → HasServed rests is_spent end asked limits w out0 out2
+  has_served finished closed resting spent = record {
+    port = port;
+    listens = inr listens;
+    begins = AppendsPrefix-after out0 out1 out2 (listening port) (served limits.conns) told more;
+    both = λ e. last e ∙ ap (λ (o : Option (List ℕ)). appended o (served limits.conns)) told ∙ appended-appended out0 (listening port) (served limits.conns);
+    first = λ e. inr (silent (at_unfinished end e) (at_no_line end e) ∙ told);
+    told = λ _. (take more.count (served limits.conns), more.is ∙ ap (λ (o : Option (List ℕ)). appended o (take more.count (served limits.conns))) told ∙ appended-appended out0 (listening port) (take more.count (served limits.conns)));
+    resting = rests_after (All rests w.connections) before end stays no_line resting (λ e. closed (finished e).closed);
+    rest_but = rest_but;
+    most = most;
+    within = within;
+    all = λ e. finished (was_finished before end stays e);
+    at_line = λ e. inr (finished (was_at_line before end stays no_line e));
+    no_jobs = λ e. spent (had_no_jobs before end stays e);
+  }
+
 module _ (rests : Connection → Type 0) (is_spent : ℕ → Type 0) (asked : ℕ) (answers : Gateway) (app : App) (limits : Limits) (w : NetMeaning) (out0 out1 out2 : Option (List ℕ)) (port : ℕ) (before end : Served) (told : out1 ≡ appended out0 (listening port))
     (own : EachTold w.connections (λ c bytes sent. BeginsSo (said_by answers app port bytes c.ended).bytes sent))
     (whole : EachTold w.connections (λ c bytes sent. IsClosedWell c → sent ≡ (said_by answers app port bytes c.ended).bytes))
@@ -157,22 +188,11 @@ module _ (rests : Connection → Type 0) (is_spent : ℕ → Type 0) (asked : �
     (silent : end ≢ Served.Finished → end ≢ Served.WriteFault → out2 ≡ out1) where
   unfoldable pub serves_so : (before ≡ Served.Finished → IsAllServed w limits.conns) → (All (λ c. c.closed ≡ true) w.connections → All rests w.connections) → (before ≡ Served.Listener → All rests w.connections)
       → (before ≡ Served.NoJobs → is_spent port) → ServesSo rests is_spent end asked answers app limits w out0 out2
+  unfolding has_served
   serves_so finished closed resting spent = record {
-    port = port;
-    listens = inr listens;
-    begins = AppendsPrefix-after out0 out1 out2 (listening port) (served limits.conns) told more;
-    both = λ e. last e ∙ ap (λ (o : Option (List ℕ)). appended o (served limits.conns)) told ∙ appended-appended out0 (listening port) (served limits.conns);
-    first = λ e. inr (silent (at_unfinished end e) (at_no_line end e) ∙ told);
-    told = λ _. (take more.count (served limits.conns), more.is ∙ ap (λ (o : Option (List ℕ)). appended o (take more.count (served limits.conns))) told ∙ appended-appended out0 (listening port) (take more.count (served limits.conns)));
+    has = has_served rests is_spent asked limits w out0 out1 out2 port before end told rest_but most within listens stays no_line more last silent finished closed resting spent;
     own = own;
     whole = whole;
     answered = answered;
-    resting = rests_after (All rests w.connections) before end stays no_line resting (λ e. closed (finished e).closed);
-    rest_but = rest_but;
     cause = cause;
-    most = most;
-    within = within;
-    all = λ e. finished (was_finished before end stays e);
-    at_line = λ e. inr (finished (was_at_line before end stays no_line e));
-    no_jobs = λ e. spent (had_no_jobs before end stays e);
   }

@@ -16,7 +16,7 @@ use Rattle.serve_command.specs.declared.serving.Served.{Served}
 use Rattle.serve_command.specs.Endings.{Stays}
 use Rattle.serve_command.specs.Jobs.{ServesJobsAt}
 use Rattle.serve_command.specs.Serving.{listening, served}
-use Rattle.serve_command.proofs.Ends.{closed_rest, no_connection, none_served, serves_so, still_spent}
+use Rattle.serve_command.proofs.Ends.{closed_rest, has_served, no_connection, none_accepted, none_served, serves_so, still_spent}
 
 -- closed ones are at rest
 closed_at_rest : (cs : List Connection) → All (λ c. c.closed ≡ true) cs → All IsAtRest cs
@@ -37,7 +37,7 @@ none_earned port cs workers none = record {
 -- nobody was accepted
 pub none_served_jobs : (end : Served) (asked : ℕ) (limits : Limits) (w : NetMeaning) (workers : World) (out0 out1 : Option (List ℕ)) (port : ℕ) → (end ≡ Served.Finished → ⊥) → (end ≡ Served.NoJobs → ⊥) → w.connections ≡ [] → w.most ≡ 0
     → AppendsPrefix out0 out1 (listening port) → (out1 ≡ out0) ⊎ ((w.listens ≡ listens_at asked port) × (end ≢ Served.WriteFault → out1 ≡ out0)) → ServesJobsAt end asked limits w workers out0 out1
-unfolding none_served
+unfolding none_served none_accepted
 none_served_jobs end asked limits w workers out0 out1 port unfinished unspent none most begins listens = record {
   serves = none_served IsAtRest (λ at. IsOutOfJobs at w workers) end asked answers job_app limits w out0 out1 port unfinished unspent none most begins listens;
   earned = none_earned port w.connections workers none;
@@ -56,7 +56,7 @@ module _ (asked : ℕ) (limits : Limits) (w : NetMeaning) (workers : World) (out
   pub serves_jobs_so : (before ≡ Served.Finished → IsAllServed w limits.conns) → (before ≡ Served.Listener → All IsAtRest w.connections) → (before ≡ Served.NoJobs → IsOutOfJobs port w workers)
       → HasEarned port w.connections workers
       → (IsOutOfJobs port w workers → (before ≡ Served.NoJobs) ⊎ (before ≡ Served.Memory)) → ServesJobsAt end asked limits w workers out0 out2
-  unfolding serves_so
+  unfolding serves_so has_served
   serves_jobs_so finished resting spent earned vain = record {
     serves = serves_so IsAtRest (λ at. IsOutOfJobs at w workers) asked answers job_app limits w out0 out1 out2 port before end told own whole answered rest_but cause most within listens stays no_line more last silent
         finished (closed_at_rest w.connections) resting spent;

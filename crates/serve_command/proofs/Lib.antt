@@ -1,2 +1,3 @@
 pub mod Ends
 pub mod JobsEnds
+pub mod RelayEnds

@@ -16,6 +16,6 @@ pub record ServesJobsAt (end : Served) (asked : ℕ) (limits : Limits) (w : NetM
   -- request of a live connection asks for one more
   pub serves : ServesSo IsAtRest (λ port. IsOutOfJobs port w workers) end asked answers job_app limits w out0 out1
   -- each request for a job that was answered has a posted job of its own, which the workers had answered
-  pub earned : HasEarned serves.port w.connections workers
+  pub earned : HasEarned serves.has.port w.connections workers
   -- where no job is left it ends so, or memory ran out
-  pub out_of_jobs : IsOutOfJobs serves.port w workers → (end ≡ Served.NoJobs) ⊎ (end ≡ Served.Memory)
+  pub out_of_jobs : IsOutOfJobs serves.has.port w workers → (end ≡ Served.NoJobs) ⊎ (end ≡ Served.Memory)

@@ -17,10 +17,10 @@ listening port = number_line (codes "listening") port
 abbrev pub served : ℕ → List ℕ
 served conns = number_line (codes "served") conns
 
--- The net was asked for this port and served each connection by itself at the one that it took, through this gateway
--- and with this application, and out has the lines. `rests` says of a connection that it may be left, and `is_spent` of
--- the port that the server had no job left.
-pub record ServesSo (rests : Connection → Type 0) (is_spent : ℕ → Type 0) (end : Served) (asked : ℕ) (answers : Gateway) (app : App) (limits : Limits) (w : NetMeaning) (out0 out1 : Option (List ℕ)) : Type 0 where
+-- What holds of a server whatever it answers: the net was asked for this port, out has the lines, and so many connections
+-- were accepted, closed and left. `rests` says of a connection that it may be left, and `is_spent` of the port that the
+-- server had no job left.
+pub record HasServed (rests : Connection → Type 0) (is_spent : ℕ → Type 0) (end : Served) (asked : ℕ) (limits : Limits) (w : NetMeaning) (out0 out1 : Option (List ℕ)) : Type 0 where
   -- the port that the net took; or nobody was accepted, and out is as it was
   pub port : ℕ
   pub listens : ((out1 ≡ out0) × (w.connections ≡ [])) ⊎ (w.listens ≡ listens_at asked port)
@@ -31,23 +31,29 @@ pub record ServesSo (rests : Connection → Type 0) (is_spent : ℕ → Type 0) 
   pub first : (end ≡ Served.Listener) ⊎ (end ≡ Served.NoJobs) ⊎ (end ≡ Served.Memory) → (out1 ≡ out0) ⊎ (out1 ≡ appended out0 (listening port))
   -- the port was told before the first connection was accepted
   pub told : 0 < length w.connections → (rest : List ℕ) × (out1 ≡ appended out0 (listening port ++ rest))
-  -- what was written to a connection begins what is said to what was read from it, and is all of it where it was closed
-  -- well
-  pub own : EachTold w.connections (λ c bytes sent. BeginsSo (said_by answers app port bytes c.ended).bytes sent)
-  pub whole : EachTold w.connections (λ c bytes sent. IsClosedWell c → sent ≡ (said_by answers app port bytes c.ended).bytes)
-  -- an open one was left to wait for bytes only after all that was due had been written; all rest, but for one where
-  -- memory ran out or no job was left
-  pub answered : EachTold w.connections (λ c bytes sent. WaitsToRead c → sent ≡ (said_by answers app port bytes c.ended).bytes)
+  -- all connections rest, but for one where memory ran out or no job was left
   pub resting : end ≢ Served.NoJobs → end ≢ Served.Memory → All rests w.connections
   pub rest_but : AllBut rests w.connections
-  -- each closed one was closed for a cause; no more were open than there are places, nor accepted than asked for
-  pub cause : EachTold w.connections (λ c bytes sent. c.closed ≡ true → Cause (said_by answers app port bytes c.ended) sent limits.idle c)
+  -- no more were open than there are places, nor accepted than asked for
   pub most : w.most ≤ limits.pool
   pub within : length w.connections ≤ limits.conns
   -- as many as asked for were accepted, and all are closed; where a line could not be written, that or nobody was
   pub all : end ≡ Served.Finished → IsAllServed w limits.conns
   pub at_line : end ≡ Served.WriteFault → (w.connections ≡ []) ⊎ IsAllServed w limits.conns
   pub no_jobs : end ≡ Served.NoJobs → is_spent port
+
+-- The net was asked for this port and served each connection by itself at the one that it took, through this gateway
+-- and with this application, and out has the lines.
+pub record ServesSo (rests : Connection → Type 0) (is_spent : ℕ → Type 0) (end : Served) (asked : ℕ) (answers : Gateway) (app : App) (limits : Limits) (w : NetMeaning) (out0 out1 : Option (List ℕ)) : Type 0 where
+  pub has : HasServed rests is_spent end asked limits w out0 out1
+  -- what was written to a connection begins what is said to what was read from it, and is all of it where it was closed
+  -- well
+  pub own : EachTold w.connections (λ c bytes sent. BeginsSo (said_by answers app has.port bytes c.ended).bytes sent)
+  pub whole : EachTold w.connections (λ c bytes sent. IsClosedWell c → sent ≡ (said_by answers app has.port bytes c.ended).bytes)
+  -- an open one was left to wait for bytes only after all that was due had been written
+  pub answered : EachTold w.connections (λ c bytes sent. WaitsToRead c → sent ≡ (said_by answers app has.port bytes c.ended).bytes)
+  -- each closed one was closed for a cause
+  pub cause : EachTold w.connections (λ c bytes sent. c.closed ≡ true → Cause (said_by answers app has.port bytes c.ended) sent limits.idle c)
 
 -- So it served with an application that gives each reply at once: all that are open wait, by a read or by a write, and
 -- it asks for no jobs.

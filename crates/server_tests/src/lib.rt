@@ -8,4 +8,6 @@ mod jobs;
 #[cfg(test)]
 mod loopback;
 #[cfg(test)]
+mod relaying;
+#[cfg(test)]
 mod scripted;

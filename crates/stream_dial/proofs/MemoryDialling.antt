@@ -65,12 +65,12 @@ pub was_free : (slots : List ℕ) (streams : List Connection) (free : Option ℕ
 was_free slots streams None taken closed old new k e = let within = slice_get_within slots taken k e in absurd (omega (arith, within, new))
 was_free slots streams (Some slot) taken closed old new k e = closed k (ap (λ (s : ℕ). slice_get slots s) (sym old) ∙ e)
 
-module _ (endpoints : List MemoryEndpoint) (opened slots : List ℕ) (slot number moment : ℕ) (old new : MemoryEndpoint) (here : number ≡ get_or slots slot number) (is : old ≡ get_or endpoints number old) where
+module _ (endpoints : List MemoryEndpoint) (opened slots : List ℕ) (towards : Option ℕ) (slot number moment : ℕ) (old new : MemoryEndpoint) (here : number ≡ get_or slots slot number) (is : old ≡ get_or endpoints number old) where
   abbrev after : DialMeaning
-  after = meaning_by (set endpoints number new) opened slots moment
+  after = meaning_by (set endpoints number new) opened slots towards moment
 
   abbrev before : DialMeaning
-  before = meaning_by endpoints opened slots moment
+  before = meaning_by endpoints opened slots towards moment
 
   same : (k : ℕ) → slice_get slots slot ≡ Some k → number ≡ k
   same k e = here ∙ slot_has slots slot k e number
@@ -83,7 +83,7 @@ module _ (endpoints : List MemoryEndpoint) (opened slots : List ℕ) (slot numbe
   reads_in o end bytes e rises failed unfailed = record {
     reads = λ k at. subst (λ (i : ℕ). Reads (net_of before.streams moment) (net_of after.streams moment) i end bytes) (same k at)
         (one_read endpoints number old new 0 moment None 0 false (within o) is end bytes e rises failed unfailed);
-    none = record { opened = refl; slots = refl };
+    none = record { opened = refl; slots = refl; towards = refl };
   }
 
   pub writes_in : IsOpen before slot → (end : WriteEnd) (bytes : List ℕ) → scripted_meaning new ≡ after_write end bytes moment new.account.faults (scripted_meaning old) → old.account.faults ≤ new.account.faults
@@ -91,20 +91,20 @@ module _ (endpoints : List MemoryEndpoint) (opened slots : List ℕ) (slot numbe
   writes_in o end bytes e rises failed unfailed = record {
     writes = λ k at. subst (λ (i : ℕ). Writes (net_of before.streams moment) (net_of after.streams moment) i end bytes) (same k at)
         (one_written endpoints number old new 0 moment None 0 false (within o) is end bytes e rises failed unfailed);
-    none = record { opened = refl; slots = refl };
+    none = record { opened = refl; slots = refl; towards = refl };
   }
 
   pub closes_in : IsOpen before slot → scripted_meaning new ≡ closed_at moment (scripted_meaning old) → ClosesIn before after slot
   closes_in o e = record {
     closes = λ k at. subst (λ (i : ℕ). Changes (net_of before.streams moment) (net_of after.streams moment) i (closed_at moment)) (same k at)
         (one_changed endpoints number old new 0 moment None 0 false (within o) is (closed_at moment) e);
-    none = record { opened = refl; slots = refl };
+    none = record { opened = refl; slots = refl; towards = refl };
   }
 
   pub stays_in : scripted_meaning new ≡ scripted_meaning old → StaysDialled before after
   stays_in e = record {
     streams = map-set_same scripted_meaning endpoints number new old (e ∙ ap scripted_meaning is);
-    none = record { opened = refl; slots = refl };
+    none = record { opened = refl; slots = refl; towards = refl };
     moment = omega arith;
   }
 

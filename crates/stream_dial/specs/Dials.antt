@@ -7,11 +7,12 @@ use Rattle.stream_net.specs.Reads.{Reads}
 use Rattle.stream_net.specs.Writes.{Writes}
 
 -- The streams that were ever opened, in order; the moment at which each was; the number of the stream that was opened
--- last in each slot; and the moment.
+-- last in each slot; the port towards which the next is opened, where it is opened towards one; and the moment.
 pub record DialMeaning : Type 0 where
   pub streams : List Connection
   pub opened : List ℕ
   pub slots : ℕ → Option ℕ
+  pub towards : Option ℕ
   pub moment : ℕ
 
 -- the streams as the connections of a net that listens nowhere
@@ -29,10 +30,11 @@ pub record IsOpen (m : DialMeaning) (slot : ℕ) : Type 0 where
   pub is : m.slots slot ≡ Some number
   pub live : IsLive (net_of m.streams m.moment) number
 
--- no stream was opened or changed its slot
+-- no stream was opened or changed its slot, and the next is opened towards the same
 pub record OpensNone (v w : DialMeaning) : Type 0 where
   pub opened : w.opened ≡ v.opened
   pub slots : w.slots ≡ v.slots
+  pub towards : w.towards ≡ v.towards
 
 -- one more stream, of the next number, in a slot in which none was open
 pub record Opens (v w : DialMeaning) (slot : ℕ) : Type 0 where
@@ -43,6 +45,7 @@ pub record Opens (v w : DialMeaning) (slot : ℕ) : Type 0 where
   pub opened : w.opened ≡ v.opened ++ w.moment ∷ []
   pub number : w.slots slot ≡ Some (length v.streams)
   pub others : (other : ℕ) → other ≢ slot → w.slots other ≡ v.slots other
+  pub towards : w.towards ≡ v.towards
   pub moment : v.moment ≤ w.moment
 
 -- the streams stay as they were; the moment doesn't fall

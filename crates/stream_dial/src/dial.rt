@@ -1,5 +1,5 @@
 //! What dialled streams are to those that use them.
-ghost use Rattle.std.specs.Prelude.{◌≡◌, ◌+◌, ◌<◌, ◌≤◌, ◌++◌, ℕ, length, IfOk, OnErr};
+ghost use Rattle.std.specs.Prelude.{◌≡◌, ◌+◌, ◌<◌, ◌≤◌, ◌++◌, ℕ, length, Some, IfOk, OnErr};
 ghost use Rattle.stream_dial.specs.Dials.{ClosesIn, DialMeaning, IsOpen, Opens, ReadsIn, StaysDialled, WritesIn};
 
 use std::alloc::AllocError;
@@ -13,6 +13,10 @@ use stream_net::{ReadEnd, WriteEnd};
 pub trait Dial {
     /// What they mean to those that use them.
     ghost meaning: { Self → DialMeaning };
+
+    /// Has the streams that are opened from now on be opened towards this port of 127.0.0.1.
+    fn aim(&mut self, port: u16)
+        ensures { meaning self.new ≡ record (meaning self.old) { towards = Some port } };
 
     /// Opens a stream, and answers its slot. It need not be reached yet: a stream that can't be fails when it is read or
     /// written. Without memory none is opened.

@@ -26,6 +26,7 @@ pub struct MemoryDial {
     opened: Vec<u64>,
     // The number of the stream that was opened last in each slot.
     slots: Vec<usize>,
+    towards: Option<u16>,
     moment: u64,
     ghost within: { AreWithin slots.items (length endpoints.items) },
 }
@@ -129,7 +130,7 @@ impl MemoryDial {
 
     /// Streams that go by these scripts, none of them opened yet.
     pub fn new(alloc: Global, scripts: Vec<ConnScript>) -> MemoryDial
-        ensures none { HasOpenedNone (meaning_by result.endpoints.items result.opened.items result.slots.items result.moment) }
+        ensures none { HasOpenedNone (meaning_by result.endpoints.items result.opened.items result.slots.items result.towards result.moment) }
         ensures moment { result.moment ≡ 0 }
         ensures scripts { result.scripts ≡ scripts }
     {
@@ -139,6 +140,7 @@ impl MemoryDial {
             endpoints: Vec::new(alloc),
             opened: Vec::new(alloc),
             slots: Vec::new(alloc),
+            towards: None,
             moment: 0,
         }
     }
@@ -176,7 +178,11 @@ impl Dial for MemoryDial {
     ghost use Rattle.stream_dial.specs.Dials.{ClosesIn, IsOpen, Opens, ReadsIn, StaysDialled, WritesIn};
     ghost use Rattle.stream_dial.specs.MemoryDials.{meaning_by};
 
-    ghost meaning = { λ m. meaning_by m.endpoints.items m.opened.items m.slots.items m.moment };
+    ghost meaning = { λ m. meaning_by m.endpoints.items m.opened.items m.slots.items m.towards m.moment };
+
+    fn aim(&mut self, port: u16) {
+        self.towards = Some(port);
+    }
 
     fn dial(&mut self) -> Result<usize, AllocError> {
         self.endpoints.reserve(1)?;

@@ -1,6 +1,6 @@
 -- A server between two events, by its service and its table. `fits` is what the service knows of the applications as
 -- which it answers its connections, and `ties` what ties it to its clients, of whom the last number is given.
-use Rattle.std.specs.Prelude.{◌≡◌, ℕ, false, [], length}
+use Rattle.std.specs.Prelude.{◌≡◌, ℕ, false, [], length, Option}
 use Rattle.stream_net.specs.Net.{IsLive, NetMeaning, connection_at}
 use Rattle.stream_server.specs.declared.client.Client.{Client}
 use Rattle.stream_server.specs.declared.limits.Terms.{Terms}
@@ -45,8 +45,9 @@ pub record AsksInVain {T : Type 0} (P : Protocol T) (fits : Apps → Type 0) (wa
   pub wants_it : wants client.talk
   pub none_due : P.due client.talk ≡ []
 
--- a service and its world stay sound, fit no applications that they didn't fit before, and have as many workers
-pub record StaysSound {V W : Type 0} (is_sound : V → W → Type 0) (fits : V → W → Apps → Type 0) (workers : W → ℕ) (v : V) (w : W) (v' : V) (w' : W) : Type 0 where
+-- a service and its world stay sound, fit no applications that they didn't fit before, and what lasts of the world is as
+-- it was
+pub record StaysSound {V W : Type 0} (is_sound : V → W → Type 0) (fits : V → W → Apps → Type 0) (lasting : W → ℕ × Option ℕ) (v : V) (w : W) (v' : V) (w' : W) : Type 0 where
   pub sound : is_sound v' w'
   pub knows : (apps : Apps) → fits v' w' apps → fits v w apps
-  pub as_many : workers w' ≡ workers w
+  pub as_before : lasting w' ≡ lasting w

@@ -1,5 +1,5 @@
 //! A server whose application gives each reply at once.
-ghost use Rattle.std.specs.Prelude.{◌≡◌, ◌≢◌, ◌≤◌, ℕ, true, false, length, IsSome};
+ghost use Rattle.std.specs.Prelude.{◌≡◌, ◌≢◌, ◌≤◌, ℕ, true, false, length, None, IsSome};
 ghost use Rattle.std.specs.List.{All};
 ghost use Rattle.gv_values.specs.Counts.{HasRisen};
 ghost use Rattle.stream_net.specs.Net.{IsFresh};
@@ -46,7 +46,7 @@ impl<'a, T: Talk + Drop, A: Application> Service<T, ()> for Answering<'a, A> {
 
     ghost spent = { λ service world. ⊥ };
 
-    ghost workers = { λ world. 0 };
+    ghost lasting = { λ world. (0, None) };
 
     fn begin(&self, port: u16) -> T {
         T::begin(self.alloc, port)

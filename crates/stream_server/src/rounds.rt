@@ -79,7 +79,7 @@ fn hold_client<T: Drop, W, V: Service<T, W>, N: Net, H>(
     requires but { IsRunningBut V.protocol (V.fits service.old world.old) (TiesFrom (V.tied_but service.old world.old) (V.rank client.talk)) serving.now.terms (N.meaning net.old) table.old client.conn }
     ensures running { OnOk result (IsRunning V.protocol (V.fits service.new world.new) (V.tied service.new world.new) serving.now.terms (N.meaning net.new) table.new) }
     ensures left { OnErr result (LeftBy V.protocol (V.fits service.new world.new) serving.now.terms (N.meaning net.new)) }
-    ensures service { StaysSound V.sound V.fits V.workers service.old world.old service.new world.new }
+    ensures service { StaysSound V.sound V.fits V.lasting service.old world.old service.new world.new }
     ensures in_vain { result ≡ Err RoundFault.Spent → AsksInVain V.protocol (V.fits service.new world.new) V.wants (V.spent service.new world.new) serving.now.terms (N.meaning net.new) }
     ensures keeps { Keeps (N.meaning net.old) (N.meaning net.new) }
     ensures no_listener { result ≢ Err RoundFault.Listener }
@@ -114,7 +114,7 @@ fn serve_client<T: Drop, W, V: Service<T, W>, N: Net, H: Wait>(
     requires sound { V.sound service.old world.old }
     ensures running { OnOk result (IsRunning V.protocol (V.fits service.new world.new) (V.tied service.new world.new) serving.now.terms (N.meaning net.new) table.new) }
     ensures left { OnErr result (LeftBy V.protocol (V.fits service.new world.new) serving.now.terms (N.meaning net.new)) }
-    ensures service { StaysSound V.sound V.fits V.workers service.old world.old service.new world.new }
+    ensures service { StaysSound V.sound V.fits V.lasting service.old world.old service.new world.new }
     ensures in_vain { result ≡ Err RoundFault.Spent → AsksInVain V.protocol (V.fits service.new world.new) V.wants (V.spent service.new world.new) serving.now.terms (N.meaning net.new) }
     ensures keeps { Keeps (N.meaning net.old) (N.meaning net.new) }
     ensures no_listener { result ≢ Err RoundFault.Listener }
@@ -158,7 +158,7 @@ fn accept_client<T: Drop, W, V: Service<T, W>, N: Net, H: Wait>(
     requires sound { V.sound service.old world.old }
     ensures running { OnOk result (IsRunning V.protocol (V.fits service.new world.new) (V.tied service.new world.new) serving.now.terms (N.meaning net.new) table.new) }
     ensures left { OnErr result (LeftBy V.protocol (V.fits service.new world.new) serving.now.terms (N.meaning net.new)) }
-    ensures service { StaysSound V.sound V.fits V.workers service.old world.old service.new world.new }
+    ensures service { StaysSound V.sound V.fits V.lasting service.old world.old service.new world.new }
     ensures in_vain { result ≡ Err RoundFault.Spent → AsksInVain V.protocol (V.fits service.new world.new) V.wants (V.spent service.new world.new) serving.now.terms (N.meaning net.new) }
     ensures came { IfOk result (λ came. came ≡ true → length (N.meaning net.new).connections ≡ length (N.meaning net.old).connections + 1) }
     ensures none { IfOk result (λ came. came ≡ false → length (N.meaning net.new).connections ≡ length (N.meaning net.old).connections) }
@@ -204,7 +204,7 @@ fn accept_clients<T: Drop, W, V: Service<T, W>, N: Net, H: Wait>(
     requires sound { V.sound service.old world.old }
     ensures running { OnOk result (IsRunning V.protocol (V.fits service.new world.new) (V.tied service.new world.new) serving.now.terms (N.meaning net.new) table.new) }
     ensures left { OnErr result (LeftBy V.protocol (V.fits service.new world.new) serving.now.terms (N.meaning net.new)) }
-    ensures service { StaysSound V.sound V.fits V.workers service.old world.old service.new world.new }
+    ensures service { StaysSound V.sound V.fits V.lasting service.old world.old service.new world.new }
     ensures in_vain { result ≡ Err RoundFault.Spent → AsksInVain V.protocol (V.fits service.new world.new) V.wants (V.spent service.new world.new) serving.now.terms (N.meaning net.new) }
     ensures accepted { IfOk result (λ accepted. HasAccepted accepted serving.now.terms.limits.conns (length table.new.members) table.new.limit (N.meaning net.new)) }
     ensures fares { Fares (result ≡ Err RoundFault.Listener) (IsStill V.protocol.holds) (N.meaning net.old) (N.meaning net.new) }
@@ -237,7 +237,7 @@ fn poll_reply<T: Drop, W, V: Service<T, W>, N: Net>(
         → TiesAfter result (V.tied service.new world.new table.new accepted) (λ client. V.tied_but service.new world.new table.new accepted client.conn (V.rank client.talk)) }
     ensures fits { (apps : Apps) → V.fits service.new world.new apps → V.fits service.old world.old apps }
     ensures sound { V.sound service.new world.new }
-    ensures workers { V.workers world.new ≡ V.workers world.old }
+    ensures lasting { V.lasting world.new ≡ V.lasting world.old }
     ensures again { BeginsAgain result (min ((N.meaning net.now).moment + idle) NEVER) }
 {
     let deadline = net.now().saturating_add(idle);
@@ -256,7 +256,7 @@ fn poll_service<T: Drop, W, V: Service<T, W>, N: Net, H: Wait>(
     requires sound { V.sound service.old world.old }
     ensures running { OnOk result (IsRunning V.protocol (V.fits service.new world.new) (V.tied service.new world.new) serving.now.terms (N.meaning net.new) table.new) }
     ensures left { OnErr result (LeftBy V.protocol (V.fits service.new world.new) serving.now.terms (N.meaning net.new)) }
-    ensures service { StaysSound V.sound V.fits V.workers service.old world.old service.new world.new }
+    ensures service { StaysSound V.sound V.fits V.lasting service.old world.old service.new world.new }
     ensures in_vain { result ≡ Err RoundFault.Spent → AsksInVain V.protocol (V.fits service.new world.new) V.wants (V.spent service.new world.new) serving.now.terms (N.meaning net.new) }
     ensures keeps { Keeps (N.meaning net.old) (N.meaning net.new) }
     ensures no_listener { result ≢ Err RoundFault.Listener }
@@ -303,7 +303,7 @@ fn wake_client<T: Drop, W, V: Service<T, W>, N: Net, H: Wait>(
     requires sound { V.sound service.old world.old }
     ensures running { OnOk result (IsRunning V.protocol (V.fits service.new world.new) (V.tied service.new world.new) serving.now.terms (N.meaning net.new) table.new) }
     ensures left { OnErr result (LeftBy V.protocol (V.fits service.new world.new) serving.now.terms (N.meaning net.new)) }
-    ensures service { StaysSound V.sound V.fits V.workers service.old world.old service.new world.new }
+    ensures service { StaysSound V.sound V.fits V.lasting service.old world.old service.new world.new }
     ensures in_vain { result ≡ Err RoundFault.Spent → AsksInVain V.protocol (V.fits service.new world.new) V.wants (V.spent service.new world.new) serving.now.terms (N.meaning net.new) }
     ensures keeps { Keeps (N.meaning net.old) (N.meaning net.new) }
     ensures no_listener { result ≢ Err RoundFault.Listener }
@@ -350,7 +350,7 @@ fn wait_next<T: Drop, W, V: Service<T, W>, N: Net, H: Wait>(
     requires sound { V.sound service.old world.old }
     ensures running { OnOk result (IsRunning V.protocol (V.fits service.new world.new) (V.tied service.new world.new) serving.now.terms (N.meaning net.new) table.new) }
     ensures left { OnErr result (LeftBy V.protocol (V.fits service.new world.new) serving.now.terms (N.meaning net.new)) }
-    ensures service { StaysSound V.sound V.fits V.workers service.old world.old service.new world.new }
+    ensures service { StaysSound V.sound V.fits V.lasting service.old world.old service.new world.new }
     ensures in_vain { result ≡ Err RoundFault.Spent → AsksInVain V.protocol (V.fits service.new world.new) V.wants (V.spent service.new world.new) serving.now.terms (N.meaning net.new) }
     ensures accepted { length (N.meaning net.new).connections ≡ length (N.meaning net.old).connections }
     ensures fares { Fares (result ≡ Err RoundFault.Listener) (IsStill V.protocol.holds) (N.meaning net.old) (N.meaning net.new) }
@@ -408,7 +408,7 @@ fn turn<T: Drop, W, V: Service<T, W>, N: Net, H: Wait>(
     requires sound { V.sound service.old world.old }
     ensures running { OnOk result (IsRunning V.protocol (V.fits service.new world.new) (V.tied service.new world.new) serving.now.terms (N.meaning net.new) table.new) }
     ensures left { LeftBy V.protocol (V.fits service.new world.new) serving.now.terms (N.meaning net.new) }
-    ensures service { StaysSound V.sound V.fits V.workers service.old world.old service.new world.new }
+    ensures service { StaysSound V.sound V.fits V.lasting service.old world.old service.new world.new }
     ensures in_vain { result ≡ Err RoundFault.Spent → AsksInVain V.protocol (V.fits service.new world.new) V.wants (V.spent service.new world.new) serving.now.terms (N.meaning net.new) }
     ensures accepted { (count : ℕ) → result ≡ Ok (Round.GoesOn count) → count ≡ length (N.meaning net.new).connections }
     ensures fares { Fares (result ≡ Err RoundFault.Listener) (IsStill V.protocol.holds) (N.meaning net.old) (N.meaning net.new) }
@@ -464,7 +464,7 @@ pub fn serve_on<T: Drop, W, V: Service<T, W>, N: Net, H: Wait>(
     ensures never_falls { (N.meaning net.old).faults ≤ (N.meaning net.new).faults }
     ensures sound { V.sound service.new world.new }
     ensures knows { (apps : Apps) → V.fits service.new world.new apps → V.fits service.old world.old apps }
-    ensures workers { V.workers world.new ≡ V.workers world.old }
+    ensures lasting { V.lasting world.new ≡ V.lasting world.old }
     ensures in_vain { result ≡ ServiceEnd.Spent → AsksInVain V.protocol (V.fits service.new world.new) V.wants (V.spent service.new world.new) terms (N.meaning net.new) }
 {
     let Ok(mut table) = ClientTable::new(alloc, terms.limits.pool) else {

@@ -79,8 +79,8 @@ pub trait Service<T, W> {
     /// There is no more of that.
     ghost spent: { Self → W → Type 0 };
 
-    /// How many workers `W` has.
-    ghost workers: { W → ℕ };
+    /// What of `W` stays as it is: a number, as of its workers or of its patience, and the port to which it leads, if any.
+    ghost lasting: { W → ℕ × Option ℕ };
 
     /// A talk with a new connection to a server at this port.
     fn begin(&self, port: u16) -> T
@@ -136,7 +136,7 @@ pub trait Service<T, W> {
         ensures fits { (apps : Apps) → fits self.new world.new apps → fits self.old world.old apps }
         ensures spent { result ≡ Err HoldRefusal.Spent → spent self.new world.new }
         ensures sound { sound self.new world.new }
-        ensures workers { workers world.new ≡ workers world.old };
+        ensures lasting { lasting world.new ≡ lasting world.old };
 
     /// Asks `W` whether a reply has come, gives it to the client that is held for it, and takes that out of the table. Its
     /// deadline is this one, but not before the one that it had.
@@ -148,7 +148,7 @@ pub trait Service<T, W> {
             → TiesAfter result (tied self.new world.new table.new accepted) (λ client. tied_but self.new world.new table.new accepted client.conn (rank client.talk)) }
         ensures fits { (apps : Apps) → fits self.new world.new apps → fits self.old world.old apps }
         ensures sound { sound self.new world.new }
-        ensures workers { workers world.new ≡ workers world.old };
+        ensures lasting { lasting world.new ≡ lasting world.old };
 
     /// Whether the connection of this talk is held.
     fn is_held(&self, talk: &T) -> bool

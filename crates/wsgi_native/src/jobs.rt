@@ -128,7 +128,7 @@ impl<W: World> Service<JobTalk, W> for Jobs {
 
     ghost spent = { λ jobs world. is_posted LAST_JOB (W.meaning world).posts ≡ true };
 
-    ghost workers = { λ world. (W.meaning world).workers };
+    ghost lasting = { λ world. ((W.meaning world).workers, None) };
 
     fn begin(&self, port: u16) -> JobTalk {
         JobTalk {

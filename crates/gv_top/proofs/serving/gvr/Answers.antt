@@ -17,7 +17,7 @@ returns-in-Some-clause-checks g c = λ none. c.in-Some.ensures.checks
 pub returns-in-Some-clause-served : goal.returns-in-Some-clause-served
 returns-in-Some-clause-served g c = λ options e.
     let named = is_some _ options e in
-    serves_nobody c.in-Some.status _ options _ _ _ _ _ _ _ _ c.requires.fresh (ap g.W.World.meaning (c.offline.ensures.native_alone named)) (ap g.K.Sink.written (c.offline.ensures.out_alone named)) (c.in-Some.ensures.not_serve named)
+    serves_nobody c.in-Some.status _ options _ _ _ _ _ _ _ _ _ c.requires.fresh c.requires.undialled.none (ap g.W.World.meaning (c.offline.ensures.native_alone named)) (ap g.K.Sink.written (c.offline.ensures.out_alone named)) (c.in-Some.ensures.not_serve named)
 
 pub returns-in-Some-clause-network_fault : goal.returns-in-Some-clause-network_fault
 returns-in-Some-clause-network_fault g c = λ e. absurd (c.in-Some.ensures.no_net e)
@@ -56,13 +56,16 @@ returns-in-None-clause-usage_only g c = λ e.
 pub returns-in-None-clause-served : goal.returns-in-None-clause-served
 returns-in-None-clause-served g c = λ options e.
     let t = told_as c.verdict_of_server.ensures c.tell.ensures.told in
-    serves_so _ _ options c.serve-end.result t.0 _ _ _ _ _ _ _ _ _ _ _ _ _ (ap g.W.World.meaning (c.offline.ensures.native_alone c.in-None.ensures.serve)) (ap g.K.Sink.written (c.offline.ensures.out_alone c.in-None.ensures.serve)) (ap g.E.Sink.written c.in-None.ensures.err_alone)
+    serves_so _ _ options c.serve-end.result t.0 _ _ _ _ _ _ _ _ _ _ _ _ _ _ (ap g.W.World.meaning (c.offline.ensures.native_alone c.in-None.ensures.serve)) (ap g.K.Sink.written (c.offline.ensures.out_alone c.in-None.ensures.serve)) (ap g.E.Sink.written c.in-None.ensures.err_alone)
     (c.serve-end.ensures.serves options e) t.1 t.2
 
 pub returns-in-None-clause-network_fault : goal.returns-in-None-clause-network_fault
 returns-in-None-clause-network_fault g c = λ e.
     let t = told_as c.verdict_of_server.ensures c.tell.ensures.told in
     (c.in-None.ensures.serve, c.serve-end.ensures.listens.failed (is_listener _ c.serve-end.result (status_or _ _ t.0 _ _ _ _ t.1 t.2) e))
+
+pub returns-in-None-clause-behind_alone : goal.returns-in-None-clause-behind_alone
+returns-in-None-clause-behind_alone g c = c.serve-end.ensures.undialled
 
 pub returns-in-None-clause-net_alone : goal.returns-in-None-clause-net_alone
 returns-in-None-clause-net_alone g c = λ none. none_named _ _ c.in-None.ensures.serve none

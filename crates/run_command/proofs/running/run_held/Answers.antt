@@ -27,8 +27,8 @@ returns-in-Some-clause-native g c = λ wf m.
 pub returns-in-Some-clause-began : goal.returns-in-Some-clause-began
 returns-in-Some-clause-began g c =
     inl (held_there (λ v. IsHeldAhead g.W.World.waits (run c.args.engine.scenario c.args.engine.turns c.args.engine.moves) (g.W.World.meaning v) (g.K.Sink.written c.args.out.now) (g.K.Sink.written c.run_in_world-ran.new.out) (g.K.Sink.handed c.run_in_world-ran.new.out)) c.into_inner.result.now _ (search rules)
-    (held_ahead g.W.World.waits c.in-Some.end c.args.engine.scenario c.args.engine.turns c.args.engine.moves c.args.workers c.run_in_world-ran.new.world.inner.ghost_name _ (g.W.World.meaning c.into_inner.result.now) c.run_in_world-ran.new.world.script _ _ _
-    c.requires.some c.in-Some.ensures.ran c.into_inner.ensures.leads c.in-Some.ensures.ahead))
+    (held_ahead g.W.World.waits c.in-Some.end c.args.engine.scenario c.args.engine.turns c.args.engine.moves c.args.workers c.run_in_world-ran.new.world.inner.ghost_name _ (g.W.World.meaning c.into_inner.result.now) (g.W.World.stands_for c.into_inner.result.now) c.run_in_world-ran.new.world.script _ _ _
+    c.requires.some c.in-Some.ensures.ran c.into_inner.ensures.leads c.into_inner.ensures.logged c.in-Some.ensures.ahead))
 
 pub returns-in-None-clause-began : goal.returns-in-None-clause-began
 returns-in-None-clause-began g c = inr (c.in-None.ensures.unwritten, refl)

@@ -10,7 +10,7 @@ loop-init g c = record {
   can = tt;
   finite = tt;
   running = running_first g.V.Service.protocol g.met.V.Service.lawful c.args.terms (g.V.Service.fits c.args.service.now c.args.world.now) (g.V.Service.tied c.args.service.now c.args.world.now) (g.N.Net.meaning c.args.net.now) c.in-Ok.table c.requires.fresh c.requires.listens c.in-Ok.ensures.count c.in-Ok.ensures.limit c.in-Ok.ensures.members c.in-Ok.ensures.nobody c.requires.tied;
-  service = record { sound = c.requires.sound; knows = λ apps fits. fits; as_many = refl };
+  service = record { sound = c.requires.sound; knows = λ apps fits. fits; as_before = refl };
   accepted = sym (ap length c.requires.fresh.none);
   listens = refl;
   faults = refl;
@@ -42,7 +42,7 @@ loop-preserved g c =
       service = record {
         sound = now.service.sound;
         knows = λ apps fits. was.service.knows apps (now.service.knows apps fits);
-        as_many = now.service.as_many ∙ was.service.as_many;
+        as_before = now.service.as_before ∙ was.service.as_before;
       };
       accepted = now.accepted c.in-Ok-GoesOn.count (is_round c.in-Ok-GoesOn.field-0 (Round.GoesOn c.in-Ok-GoesOn.count) c.in-Ok-GoesOn.field-0-is);
       listens = now.fares.listens ∙ was.listens;
@@ -63,7 +63,7 @@ returns-in-Ok-Finished g c =
       never_falls = subst (λ (n : ℕ). n ≤ (g.N.Net.meaning c.turn.new.net).faults) was.faults now.fares.never_falls;
       sound = now.service.sound;
       knows = λ apps fits. was.service.knows apps (now.service.knows apps fits);
-      workers = now.service.as_many ∙ was.service.as_many;
+      lasting = now.service.as_before ∙ was.service.as_before;
       in_vain = search rules;
     }
 
@@ -81,7 +81,7 @@ returns-in-Err-Listener g c =
       never_falls = subst (λ (n : ℕ). n ≤ (g.N.Net.meaning c.turn.new.net).faults) was.faults now.fares.never_falls;
       sound = now.service.sound;
       knows = λ apps fits. was.service.knows apps (now.service.knows apps fits);
-      workers = now.service.as_many ∙ was.service.as_many;
+      lasting = now.service.as_before ∙ was.service.as_before;
       in_vain = search rules;
     }
 
@@ -99,7 +99,7 @@ returns-in-Err-Spent g c =
       never_falls = subst (λ (n : ℕ). n ≤ (g.N.Net.meaning c.turn.new.net).faults) was.faults now.fares.never_falls;
       sound = now.service.sound;
       knows = λ apps fits. was.service.knows apps (now.service.knows apps fits);
-      workers = now.service.as_many ∙ was.service.as_many;
+      lasting = now.service.as_before ∙ was.service.as_before;
       in_vain = λ _. now.in_vain (is_fault c.in-Err-Spent.field-0 RoundFault.Spent c.in-Err-Spent.field-0-is);
     }
 
@@ -117,6 +117,6 @@ returns-in-Err-Memory g c =
       never_falls = subst (λ (n : ℕ). n ≤ (g.N.Net.meaning c.turn.new.net).faults) was.faults now.fares.never_falls;
       sound = now.service.sound;
       knows = λ apps fits. was.service.knows apps (now.service.knows apps fits);
-      workers = now.service.as_many ∙ was.service.as_many;
+      lasting = now.service.as_before ∙ was.service.as_before;
       in_vain = search rules;
     }

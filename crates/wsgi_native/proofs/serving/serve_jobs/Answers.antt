@@ -1,4 +1,4 @@
-use Rattle.std.proofs.Common.{refl, sym, subst, ℕ}
+use Rattle.std.proofs.Common.{ap, refl, sym, subst, ℕ, Option}
 use Rattle.std.specs.Prelude.{nat_eq}
 use Rattle.std.specs.HashMap.{get}
 use Rattle.stream_server.specs.Tables.{IsListed}
@@ -61,3 +61,6 @@ pub returns-clause-out_of_jobs : goal.returns-clause-out_of_jobs
 returns-clause-out_of_jobs g c =
     ends_in_vain c.args.port c.args.limits.conns (g.N.Net.meaning c.serve_on-end.new.net) (g.W.World.meaning c.serve_on-end.new.world) c.end_of.result (λ e. c.serve_on-end.ensures.finished (c.end_of.ensures.finished e))
     (λ e. all_rest job_protocol.holds (g.N.Net.meaning c.serve_on-end.new.net).connections (c.serve_on-end.ensures.resting (c.end_of.ensures.listener e)))
+
+pub returns-clause-workers : goal.returns-clause-workers
+returns-clause-workers g c = ap (λ (p : ℕ × Option ℕ). p.0) c.serve_on-end.ensures.lasting

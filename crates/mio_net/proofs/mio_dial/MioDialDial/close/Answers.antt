@@ -1,6 +1,6 @@
 use Rattle.std.proofs.Common.{subst, sym, arith}
 use Rattle.mio_net.specs.Annals.{DialNotes}
-use Rattle.mio_net.specs.Dialled.{AreKept}
+use Rattle.mio_net.specs.Dialled.{AreKept, port_of}
 use Rattle.mio_net.proofs.DialLemmas.{kept_closed, one_closed}
 use Rattle.mio_net.proofs.mio_dial.MioDialDial.close.Goals as goal
 
@@ -12,4 +12,4 @@ invariant_of-self g c =
 pub returns : goal.returns
 returns g c =
     let d = c.args.self.now in
-    one_closed d.annals.notes c.args.slot d.moment d.moment (omega arith) c.and-self.result.notes c.and-self.ensures
+    one_closed d.annals.notes (port_of d.upstream) c.args.slot d.moment d.moment (omega arith) c.and-self.result.notes c.and-self.ensures

@@ -1,6 +1,6 @@
 use Rattle.std.proofs.Common.{subst, sym}
 use Rattle.mio_net.specs.Annals.{DialNotes}
-use Rattle.mio_net.specs.Dialled.{AreKept}
+use Rattle.mio_net.specs.Dialled.{AreKept, port_of}
 use Rattle.mio_net.proofs.DialLemmas.{kept_opened, kept_room, one_opened}
 use Rattle.mio_net.proofs.mio_dial.MioDialDial.dial.Goals as goal
 
@@ -16,4 +16,4 @@ returns-clause-opens g c =
     let d = c.args.self.now in
     let put = c.insert_reserved-slot in
     let room = kept_room d.annals.notes d.streams c.reserve.new.self d.kept c.reserve.ensures.rest_kept in
-    one_opened d.annals.notes put.result d.moment c.reading-self.result c.reading-self.ensures c.and-self.result.notes c.and-self.ensures (λ number is. room.free put.result number is put.ensures.was_vacant)
+    one_opened d.annals.notes (port_of d.upstream) put.result d.moment c.reading-self.result c.reading-self.ensures c.and-self.result.notes c.and-self.ensures (λ number is. room.free put.result number is put.ensures.was_vacant)

@@ -1,6 +1,6 @@
 use Rattle.std.proofs.Common.{subst, sym}
 use Rattle.mio_net.specs.Annals.{DialNotes}
-use Rattle.mio_net.specs.Dialled.{AreKept}
+use Rattle.mio_net.specs.Dialled.{AreKept, port_of}
 use Rattle.mio_net.proofs.DialLemmas.{kept_read, one_read}
 use Rattle.mio_net.proofs.mio_dial.MioDialDial.read.Goals as goal
 
@@ -12,4 +12,4 @@ invariant_of-self g c =
 pub returns-clause-reads : goal.returns-clause-reads
 returns-clause-reads g c =
     let d = c.args.self.now in
-    one_read d.annals.notes c.args.slot d.moment c.reading-self.result c.reading-self.ensures c.read_slot-end.result c.read_slot-end.new.buf c.and-self.result.notes c.and-self.ensures
+    one_read d.annals.notes (port_of d.upstream) c.args.slot d.moment c.reading-self.result c.reading-self.ensures c.read_slot-end.result c.read_slot-end.new.buf c.and-self.result.notes c.and-self.ensures

@@ -1,4 +1,4 @@
-use Rattle.std.proofs.Common.{◌≡◌, ◌++◌, ◌∷◌, [], ℕ, List, Some, IfSome, slice_get, true, length, map, sym, ap, ◌∙◌, subst, arith}
+use Rattle.std.proofs.Common.{◌≡◌, ◌++◌, ◌∷◌, [], ℕ, List, Some, IfSome, slice_get, true, length, map, refl, sym, ap, ◌∙◌, subst, arith}
 use Rattle.std.proofs.lemmas.List.{length-map, map-append}
 use Rattle.stream_net.specs.declared.memory_endpoint.MemoryEndpoint.{MemoryEndpoint}
 use Rattle.stream_net.specs.MemoryEndpoints.{scripted_meaning}
@@ -25,5 +25,6 @@ returns-clause-opens c =
       opened = c.push_reserved-2.ensures.items ∙ ap (λ (xs : List ℕ). xs ++ m.moment ∷ []) c.reserve-2.ensures.items;
       number = c.in_ok-slot.ensures.here ∙ ap Some (number ∙ sym (length-map m.endpoints.items scripted_meaning));
       others = c.in_ok-slot.ensures.others;
+      towards = refl;
       moment = omega arith;
     }

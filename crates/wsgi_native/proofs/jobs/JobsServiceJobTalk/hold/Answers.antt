@@ -1,6 +1,6 @@
 use Rattle.std.proofs.Common.{ℕ, ◌+◌, List, ap, arith, refl, sym, subst}
 use Rattle.std.proofs.Math.Numerals.{lt-add-one}
-use Rattle.std.specs.Prelude.{Some, nat_eq}
+use Rattle.std.specs.Prelude.{Some, None, nat_eq}
 use Rattle.std.specs.HashMap.{get}
 use Rattle.world.specs.Outside.{WorldMeaning as World}
 use Rattle.world.proofs.Ranking.{at_ok}
@@ -73,8 +73,8 @@ returns-clause-tied g c = λ table now accepted tied within relists.
           tied.2.2 (at_ok c.post.result c.if-is_err-2.ensures.value c.post.ensures.posted) (λ n. ap (λ (owned : List (ℕ × (ℕ × ℕ))). owner_in owned n) c.and-self.ensures) tied.1 (IsListed now) client within (lt-add-one _) relists.only relists.others,
     )
 
-pub returns-then-is_err-2-clause-workers : goal.returns-then-is_err-2-clause-workers
-returns-then-is_err-2-clause-workers g c = ap (λ (w : World). w.workers) (at_err c.post.result c.if-is_err-2.ensures.value c.post.ensures.refused)
+pub returns-then-is_err-2-clause-lasting : goal.returns-then-is_err-2-clause-lasting
+returns-then-is_err-2-clause-lasting g c = ap (λ (n : ℕ). (n, None)) (ap (λ (w : World). w.workers) (at_err c.post.result c.if-is_err-2.ensures.value c.post.ensures.refused))
 
-pub returns-clause-workers : goal.returns-clause-workers
-returns-clause-workers g c = (at_ok c.post.result c.if-is_err-2.ensures.value c.post.ensures.posted).rest.workers
+pub returns-clause-lasting : goal.returns-clause-lasting
+returns-clause-lasting g c = ap (λ (n : ℕ). (n, None)) ((at_ok c.post.result c.if-is_err-2.ensures.value c.post.ensures.posted).rest.workers)

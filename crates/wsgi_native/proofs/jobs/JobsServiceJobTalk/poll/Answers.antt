@@ -1,4 +1,4 @@
-use Rattle.std.proofs.Common.{List, ap, refl, sym, subst, ◌∙◌}
+use Rattle.std.proofs.Common.{ℕ, List, ap, refl, sym, subst, ◌∙◌}
 use Rattle.std.specs.Prelude.{Option, Some, None, nat_eq}
 use Rattle.std.specs.HashMap.{get}
 use Rattle.gv_values.specs.declared.job.Answer.{Answer}
@@ -95,11 +95,11 @@ returns-in-Nothing-clause-sound g c = (
 pub returns-in-Nothing-clause-fits : goal.returns-in-Nothing-clause-fits
 returns-in-Nothing-clause-fits g c = agreed_earlier (g.W.World.meaning c.args.world.now) (g.W.World.meaning c.ask.new.self) (owner_in c.args.self.now.owners.list) c.in-Ok.answer c.in-Ok.ensures.stored
 
-pub returns-in_default-clause-workers : goal.returns-in_default-clause-workers
-returns-in_default-clause-workers g c = ap (λ (w : World). w.workers) c.in_default.ensures.refused
+pub returns-in_default-clause-lasting : goal.returns-in_default-clause-lasting
+returns-in_default-clause-lasting g c = ap (λ (n : ℕ). (n, None)) (ap (λ (w : World). w.workers) c.in_default.ensures.refused)
 
-pub returns-in-Some-remove-clause-workers : goal.returns-in-Some-remove-clause-workers
-returns-in-Some-remove-clause-workers g c = c.in-Ok.ensures.stored.rest.workers
+pub returns-in-Some-remove-clause-lasting : goal.returns-in-Some-remove-clause-lasting
+returns-in-Some-remove-clause-lasting g c = ap (λ (n : ℕ). (n, None)) (c.in-Ok.ensures.stored.rest.workers)
 
-pub returns-in-Nothing-clause-workers : goal.returns-in-Nothing-clause-workers
-returns-in-Nothing-clause-workers g c = c.in-Ok.ensures.stored.rest.workers
+pub returns-in-Nothing-clause-lasting : goal.returns-in-Nothing-clause-lasting
+returns-in-Nothing-clause-lasting g c = ap (λ (n : ℕ). (n, None)) (c.in-Ok.ensures.stored.rest.workers)

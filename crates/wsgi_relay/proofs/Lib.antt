@@ -1,0 +1,11 @@
+pub mod Adding
+pub mod Earning
+pub mod ExchangeLaws
+pub mod Keeping
+pub mod Opening
+pub mod Releasing
+pub mod Sending
+pub mod Streaming
+pub mod Talking
+pub mod Tying
+pub mod Turning
