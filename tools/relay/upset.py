@@ -202,5 +202,5 @@ def run(front: Front, is_short: bool, findings: Findings) -> None:
     killed(front, 0.5 if is_short else 2, findings)
     stopped(front, findings)
     slow(front, 0.1 if is_short else 1, findings)
-    one_late(front, 200 if is_short else 1000, 2 if is_short else 5, findings)
+    one_late(front, 200 if is_short else 1000, 3 if is_short else 5, findings)
     gone_clients(front, 50 if is_short else 500, findings)
