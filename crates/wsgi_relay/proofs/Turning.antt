@@ -27,13 +27,13 @@ pub turn_ok : {E P : Type 0} (slot : ℕ) (r : Result (Option Far) E) → turn_o
 turn_ok slot (Ok o) goes h = h
 turn_ok slot (Err e) goes h = absurd (goes refl)
 
-over_slot : Turn → ℕ
+abbrev over_slot : Turn → ℕ
 over_slot T.Rests = 0
 over_slot T.GoesOn = 0
 over_slot (T.Over slot far) = slot
 over_slot T.Memory = 0
 
-over_far : Turn → Far
+abbrev over_far : Turn → Far
 over_far T.Rests = F.GoesOn
 over_far T.GoesOn = F.GoesOn
 over_far (T.Over slot far) = far
