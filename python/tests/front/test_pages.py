@@ -1,4 +1,5 @@
 """What the front reads of EXPLAIN, the versions that pages tell, and the commands of README and TOUR as they are typed."""
+import os
 import pathlib
 import re
 import subprocess
@@ -66,7 +67,9 @@ class Commands(unittest.TestCase):
 
     def shown(self, command: str) -> str:
         """What it writes; it ends with 0 and complains of nothing but that no program is built."""
-        ended = subprocess.run(["sh", "-c", command], cwd=self.folder, stdin=subprocess.DEVNULL, capture_output=True, text=True)
+        # A program that is named is not said to be older than a source.
+        how = {**os.environ, "GVR_PROGRAM": str(PROGRAM)}
+        ended = subprocess.run(["sh", "-c", command], cwd=self.folder, stdin=subprocess.DEVNULL, capture_output=True, text=True, env=how)
         self.assertEqual(ended.returncode, 0, (command, ended.stderr))
         self.assertEqual(re.sub(r"^gvr: a model in Python answers.*\n", "", ended.stderr), "", command)
         return ended.stdout

@@ -17,6 +17,14 @@ class Error(Exception):
     pass
 
 
+def stays() -> None:
+    """Takes a second more to end where it is killed."""
+    try:
+        gevent.sleep(1)
+    finally:
+        gevent.sleep(1)
+
+
 class Facade(unittest.TestCase):
     def says(self, main: Callable[[Say], Any], *expected: Any, again: bool = True) -> None:
         said, outcome, _ = in_all_ways(main, again=again)
@@ -365,11 +373,6 @@ class Several(unittest.TestCase):
 
     def test_killall_raises_its_timeout(self) -> None:
         def main(say: Say) -> None:
-            def stays() -> None:
-                try:
-                    gevent.sleep(1)
-                finally:
-                    gevent.sleep(1)
             g = gevent.spawn(stays)
             gevent.sleep(0)
             try:
@@ -406,11 +409,6 @@ class Several(unittest.TestCase):
 
     def test_group_kill_with_a_timeout(self) -> None:
         def main(say: Say) -> None:
-            def stays() -> None:
-                try:
-                    gevent.sleep(1)
-                finally:
-                    gevent.sleep(1)
             g = pool.Group()
             a = g.spawn(stays)
             b = g.spawn(gevent.sleep, 1)
