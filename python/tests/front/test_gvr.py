@@ -1,4 +1,4 @@
-"""`./gvr` as a user calls it: over a program (the model stands for it here) and without one."""
+"""`./gvr` as a user calls it: over the built program, or the model in its place where none is built, and without one."""
 import json
 import os
 import pathlib
@@ -12,7 +12,7 @@ from typing import Dict, List, Optional
 
 from gvr.front.program import TOP
 
-GVR = str(TOP / "gvr")
+GVR, BUILT = str(TOP / "gvr"), TOP / "crates/gvr/out/gvr"
 HELLO = str(TOP / "examples/hello.gvr")
 HELLO_TRACE = (TOP / "examples/hello.trace").read_text()
 AS_PROGRAM = f"""#!/bin/sh
@@ -26,13 +26,13 @@ def heed_interrupts() -> None:
 
 
 class Front(unittest.TestCase):
-    """A folder with programs that stand for the built one."""
+    """A folder with programs that stand for the built one where there is none, and where one has to fail."""
 
     def setUp(self) -> None:
         folder = tempfile.TemporaryDirectory()
         self.addCleanup(folder.cleanup)
         self.folder = pathlib.Path(folder.name)
-        self.program = self.make("program", AS_PROGRAM)
+        self.program = str(BUILT) if BUILT.is_file() else self.make("program", AS_PROGRAM)
 
     def make(self, name: str, text: str) -> str:
         """A program of this text."""

@@ -69,10 +69,11 @@ class Commands(unittest.TestCase):
         """What it writes; it ends with 0 and complains of nothing but that no program is built."""
         # A program that is named is not said to be older than a source.
         how = {**os.environ, "GVR_PROGRAM": str(PROGRAM)}
-        ended = subprocess.run(["sh", "-c", command], cwd=self.folder, stdin=subprocess.DEVNULL, capture_output=True, text=True, env=how)
-        self.assertEqual(ended.returncode, 0, (command, ended.stderr))
-        self.assertEqual(re.sub(r"^gvr: a model in Python answers.*\n", "", ended.stderr), "", command)
-        return ended.stdout
+        ended = subprocess.run(["sh", "-c", command], cwd=self.folder, stdin=subprocess.DEVNULL, capture_output=True, env=how)
+        said = ended.stderr.decode()
+        self.assertEqual(ended.returncode, 0, (command, said))
+        self.assertEqual(re.sub(r"^gvr: a model in Python answers.*\n", "", said), "", command)
+        return ended.stdout.decode()
 
     def test_each_of_readme(self) -> None:
         self.assertEqual(self.typed("README.md"), ["./gvr run examples/three_at_once.gvr", "./gvr try examples"])
