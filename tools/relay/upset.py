@@ -1,6 +1,7 @@
 """Many clients at once beside a server that is killed, stopped or slow: nobody gets what is another's, and nobody waits
 for another."""
 import collections
+import pathlib
 import random
 import signal
 import sys
@@ -107,6 +108,7 @@ def stopped(front: Front, findings: Findings) -> None:
         streams = [connect(it.port) for _ in range(CLIENTS)]
         first = [kind_of(stream.ask(request("POST", "/echo", b"a")), b"a") for stream in streams]
         server.process.send_signal(signal.SIGSTOP)
+        wait_until_stopped(server.process.pid)
         began = time.monotonic()
         for stream in streams:
             stream.send(request("POST", "/echo", b"b"))
@@ -120,6 +122,15 @@ def stopped(front: Front, findings: Findings) -> None:
     seen = f"{told(Counts(first))}; then {told(Counts(late))}; then {told(Counts(after))}"
     findings.tell(f"{CLIENTS} requests of a server that is stopped, and goes on", seen, is_met)
     findings.tell("the last 504 came", f"after {took:.2f} s of {patience}", patience <= took < patience + BRISK)
+
+
+def wait_until_stopped(pid: int) -> None:
+    """Waits until each thread of a process has stopped: where the machine is busy some go on for a while."""
+    for _ in range(1000):
+        stats = [file.read_text() for file in pathlib.Path(f"/proc/{pid}/task").glob("*/stat")]
+        if all(stat.rpartition(") ")[2].startswith("T") for stat in stats):
+            return
+        time.sleep(0.01)
 
 
 def ask_briskly(port: int, path: str, seconds: float) -> list[float]:
