@@ -16,12 +16,14 @@ PROGRAM = TOP / "crates/gvr/out/gvr"
 
 
 def typed(page: str, begins: str) -> str:
-    """The commands of the block of a page that begins so, with the ports 8080 and 9000 replaced by free ones."""
+    """The commands of the block of a page that begins so, with the ports 8080 and 9000 replaced by free ones, and with
+    more time for a server to begin where the machine is busy."""
     found = re.search(r"^    " + re.escape(begins) + r".*\n(?:    .*\n)*", (TOP / page).read_text(), re.M)
     assert found, begins
     front, behind = free_port(), free_port()
     text = found[0].replace("8080", str(front)).replace("--pass 9000", "--pass %d" % behind)
-    return text.replace("./gvr app ", "./gvr app --port %d " % behind)
+    seconds = 2 + min(10, os.getloadavg()[0] / (os.cpu_count() or 1))
+    return text.replace("./gvr app ", "./gvr app --port %d " % behind).replace("sleep 2;", "sleep %d;" % seconds)
 
 
 def shown(commands: str, python: str) -> List[str]:
