@@ -247,9 +247,9 @@ const REPLY: &[u8] =
 const PASSED: &[u8] =
     b"HTTP/1.1 404 Not Found\r\nContent-Type: text/plain\r\nContent-Length: 8\r\nConnection: close\r\n\r\nnowhere\n";
 
-/// What the client is sent where the application server can't be reached.
-const UNREACHED: &[u8] =
-    b"HTTP/1.1 502 Bad Gateway\r\nContent-Type: text/plain\r\nContent-Length: 12\r\nConnection: close\r\n\r\nbad gateway\n";
+/// What the client is sent where the application server says nothing within the patience.
+const LATE_REPLY: &[u8] =
+    b"HTTP/1.1 504 Gateway Timeout\r\nContent-Type: text/plain\r\nContent-Length: 16\r\nConnection: close\r\n\r\ngateway timeout\n";
 
 /// A connection that sends a whole request.
 fn one_whole(alloc: Global) -> Result<Vec<ConnScript>, AllocError>
@@ -283,6 +283,7 @@ fn an_application_server_answers(rt: HostRuntime) -> Result<(), AllocError> {
     let alloc = rt.alloc();
     let replies = vec![in alloc; sending(alloc, &[REPLY], &[])?]?;
     assert!(rt; is_passed_so(&rt, alloc, replies, PASSED) == Ok(true));
-    assert!(rt; is_passed_so(&rt, alloc, Vec::new(alloc), UNREACHED) == Ok(true));
+    let silent = vec![in alloc; sending(alloc, &[], &[])?]?;
+    assert!(rt; is_passed_so(&rt, alloc, silent, LATE_REPLY) == Ok(true));
     Ok(())
 }
