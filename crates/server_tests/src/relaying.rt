@@ -270,7 +270,7 @@ const BROKEN: Side = Side {
     sends: &[(0, b"Status: 200 OK\r\n\r\none")],
     room: &[],
     ends: None,
-    fails: Some(3),
+    fails: Some(2),
     written: ASKS_A,
 };
 
